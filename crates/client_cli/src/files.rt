@@ -1,0 +1,58 @@
+//! The store, as a file.
+
+use device_model::AREA;
+use std::alloc::{AllocError, Global};
+use std::fs::{File, OpenFile, OpenOptions};
+use std::io::{ErrorKind, Read, Seek, SeekFrom, Write};
+use std::rt::Files;
+use std::{fs, io};
+
+const ZEROS: [u8; 4096] = [0; 4096];
+
+/// The path of a file in a folder.
+pub fn joined(alloc: Global, folder: &str, name: &str) -> Result<String, AllocError> {
+    let mut path = String::from_str(alloc, folder)?;
+    path.push('/')?;
+    path.push_str(name)?;
+    Ok(path)
+}
+
+/// The store, open for this client alone, with at least the bytes of the area. What it lacks is written as zeros.
+pub fn open_store<R: Files<File = File>>(rt: &R, folder: &str, path: &str) -> io::Result<File> {
+    let mut store = OpenOptions::new()
+        .read(true)
+        .write(true)
+        .create(true)
+        .open(rt, path)?;
+    if store.try_lock().is_err() {
+        return Err(io::Error::from(ErrorKind::WouldBlock));
+    }
+    let size = store.metadata()?.len();
+    if size < u64::from(AREA) {
+        grow(&mut store, size)?;
+        store.sync_all()?;
+        fs::open(rt, folder)?.sync_all()?;
+    }
+    Ok(store)
+}
+
+/// Writes zeros from the file's end up to the area's end.
+fn grow<F: Write + Seek>(store: &mut F, size: u64) -> io::Result<()> {
+    store.seek(SeekFrom::Start(size))?;
+    let mut size = size;
+    for _ in 0..AREA {
+        let left = u64::from(AREA).saturating_sub(size);
+        if left == 0 {
+            break;
+        }
+        let count = left.min(4096);
+        store.write_all(&ZEROS[..count as usize])?;
+        size += count;
+    }
+    Ok(())
+}
+
+pub fn read_at<F: Read + Seek>(file: &mut F, at: u64, into: &mut [u8]) -> io::Result<()> {
+    file.seek(SeekFrom::Start(at))?;
+    file.read_exact(into)
+}

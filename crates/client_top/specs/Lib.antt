@@ -1,0 +1,6 @@
+pub mod Words
+pub mod Texts
+pub mod Boot
+pub mod Obeyed
+pub mod Deeds
+pub mod Numbers

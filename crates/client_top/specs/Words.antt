@@ -1,0 +1,15 @@
+-- The words of the command line.
+use Rattle.std.specs.Prelude.{ℕ, if◌then◌else◌, List, [], ◌∷◌, Option, Some, None, codes, String, string_bytes}
+use Rattle.std.specs.Global.{Global}
+use Rattle.std.specs.Str.{bytes_eq}
+use Rattle.client_top.specs.declared.status.Command.{Command}
+use Rattle.client_top.specs.declared.status.Command.TheVariants.{ShowProvides}
+
+abbrev pub one_word : List ℕ → Option Command
+one_word word = if bytes_eq word (codes "show-provides") then Some ShowProvides else None
+
+-- the command that the words are, where they are one of the forms
+unfoldable pub command_of : List (String Global) → Option Command
+command_of [] = None
+command_of (word ∷ []) = one_word (string_bytes word)
+command_of (word ∷ (next ∷ words)) = None

@@ -1,0 +1,16 @@
+//! The commands of the client.
+#![tactic(auto)]
+
+mod act;
+mod call;
+mod line;
+mod show;
+mod status;
+mod words;
+
+pub use call::run;
+pub use status::{Command, Good, Status};
+pub use words::read_command;
+
+#[cfg(test)]
+mod tests;

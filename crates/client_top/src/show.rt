@@ -1,0 +1,145 @@
+//! The pairs that a database holds, and the texts of answers.
+
+ghost use Rattle.std.specs.Prelude.{◌≡◌, ◌++◌, ◌≤◌, length, codes};
+ghost use Rattle.std.specs.List.{flat_map};
+ghost use Rattle.std.specs.Fmt.{decimal};
+ghost use Rattle.std.specs.Str.{bytes_eq};
+ghost use Rattle.provides_map.specs.After.{artifact_name};
+ghost use Rattle.provides_map.specs.Pairs.{IsMap};
+ghost use Rattle.io_model.specs.Sink.{Puts};
+ghost use Rattle.record_codec.specs.Held.{marked, held_of};
+ghost use Rattle.client_top.specs.Texts.{line, mark_if, shown, text_of};
+
+use crate::line::Line;
+use crate::status::Status;
+use flow_table::Outcome;
+use io_model::{Sink, SinkFault};
+use provides_map::Provides;
+use record_codec::{Db, Entry};
+use upd_text::{Name, Value, decimal};
+
+/// `key=value` and a newline.
+#[tactic(auto, unfolding(crate::specs::Texts::line))]
+fn line_of(key: &Name, value: &Value) -> Line
+    ensures { result ≡ line (key.now, value.now) }
+{
+    let mut text = Line::new();
+    text.add(key.bytes());
+    text.add(b"=");
+    text.add(value.bytes());
+    text.add(b"\n");
+    text
+}
+
+fn is_artifact_name(key: &Name) -> bool
+    ensures { result ≡ bytes_eq key.now artifact_name }
+{
+    key.bytes() == b"artifact_name".as_slice()
+}
+
+/// The line of `artifact_name` with the mark behind its value.
+fn name_line(key: &Name, value: &Value) -> Line
+    ensures { result ≡ key.now ++ codes "=" ++ value.now ++ codes "_INCONSISTENT" ++ codes "\n" }
+{
+    let mut text = Line::new();
+    text.add(key.bytes());
+    text.add(b"=");
+    text.add(value.bytes());
+    text.add(b"_INCONSISTENT");
+    text.add(b"\n");
+    text
+}
+
+/// The line of a pair of an inconsistent update: the name has the mark.
+fn marked_line(key: &Name, value: &Value) -> Line
+    ensures { result ≡ line (marked (key.now, value.now)) }
+{
+    if is_artifact_name(key) {
+        name_line(key, value)
+    } else {
+        line_of(key, value)
+    }
+}
+
+fn pair_line(key: &Name, value: &Value, mark: bool) -> Line
+    ensures { result ≡ line (mark_if mark (key.now, value.now)) }
+{
+    if mark {
+        marked_line(key, value)
+    } else {
+        line_of(key, value)
+    }
+}
+
+/// Writes the line of a pair in one put.
+fn put_pair<O: Sink>(out: &mut O, key: &Name, value: &Value, mark: bool) -> Result<(), SinkFault>
+    ensures { Puts (O.means out.old) (line (mark_if mark (key.now, value.now))) result (O.means out.new) }
+{
+    let line = pair_line(key, value, mark);
+    out.put(line.bytes())
+}
+
+/// A line for each pair.
+fn put_lines<O: Sink>(out: &mut O, pairs: &Provides, mark: bool) -> Result<(), SinkFault>
+    ensures lines { Puts (O.means out.old) (flat_map (λ p. line (mark_if mark p)) pairs.now) result (O.means out.new) }
+    ensures map { IsMap pairs.now }
+{
+    for i in 0..pairs.len() {
+        let (key, value) = pairs.pair(i);
+        match put_pair(out, key, value, mark) {
+            Ok(()) => {}
+            Err(fault) => return Err(fault),
+        }
+    }
+    Ok(())
+}
+
+fn show_entry<O: Sink>(out: &mut O, entry: &Entry) -> Result<(), SinkFault>
+    ensures { Puts (O.means out.old) (flat_map line (held_of entry.now.position.outcome entry.now.before entry.now.new)) result (O.means out.new) }
+{
+    match entry.position.outcome {
+        Outcome::Undecided => put_lines(out, &entry.before, false),
+        Outcome::Kept => put_lines(out, &entry.before, false),
+        Outcome::Committed => put_lines(out, &entry.new, false),
+        Outcome::RolledBack => put_lines(out, &entry.before, false),
+        Outcome::Inconsistent => put_lines(out, &entry.new, true),
+    }
+}
+
+/// The pairs that a database holds, a line each.
+pub(crate) fn show<O: Sink>(out: &mut O, db: &Db) -> Result<(), SinkFault>
+    ensures { Puts (O.means out.old) (shown db.now) result (O.means out.new) }
+{
+    match db {
+        Db::Empty => Ok(()),
+        Db::Full(entry) => show_entry(out, entry),
+    }
+}
+
+fn numbered(front: &[u8], n: u32) -> Line
+    requires { length front.now ≤ 64 }
+    ensures { result ≡ front.now ++ decimal n ++ codes "\n" }
+{
+    let digits = decimal(u64::from(n));
+    let mut text = Line::new();
+    text.add(front);
+    text.add(digits.bytes());
+    text.add(b"\n");
+    text
+}
+
+/// Writes the text of an answer that shows nothing.
+#[tactic(auto, unfolding(crate::specs::Texts::text_of))]
+pub(crate) fn say<O: Sink>(out: &mut O, status: Status) -> Result<(), SinkFault>
+    ensures { Puts (O.means out.old) (text_of status) result (O.means out.new) }
+{
+    match status {
+        Status::Done(_) => Ok(()),
+        Status::DiskFault => out.put(b"disk fault\n"),
+        Status::NoMemory => out.put(b"no memory\n"),
+        Status::SinkFault => Ok(()),
+        Status::PowerOff => Ok(()),
+        Status::BadStore(offset) => out.put(numbered(b"bad store ", offset).bytes()),
+        Status::NotYet(what) => out.put(numbered(b"not yet ", what).bytes()),
+    }
+}

@@ -1,0 +1,53 @@
+//! Commands, and what they answer.
+
+ghost use Rattle.std.specs.Prelude.{◌≡◌};
+
+/// What the client can be told to do.
+#[derive(Clone, Copy, Debug, PartialEq, Eq)]
+pub enum Command {
+    ShowProvides,
+}
+
+/// What a command did.
+#[derive(Clone, Copy, Debug, PartialEq, Eq)]
+pub enum Good {
+    Shown,
+}
+
+/// What a command answers.
+#[derive(Clone, Copy, Debug, PartialEq, Eq)]
+pub enum Status {
+    /// It did what it says.
+    Done(Good),
+    /// The disk failed.
+    DiskFault,
+    /// Want of memory.
+    NoMemory,
+    /// The sink failed, and a front of the text was written.
+    SinkFault,
+    /// Power was lost.
+    PowerOff,
+    /// The store is no record; the offset of its first wrong field.
+    BadStore(u32),
+    /// The words are no form that is built so far (1), or the record isn't a finished one without scripts (2).
+    NotYet(u32),
+}
+
+impl Status {
+    ghost use Rattle.client_top.specs.Numbers.{number_of};
+
+    /// The exit status of the program.
+    pub fn number(self) -> u8
+        ensures { result ≡ number_of self }
+    {
+        match self {
+            Status::Done(_) => 0,
+            Status::DiskFault => 5,
+            Status::NoMemory => 7,
+            Status::SinkFault => 8,
+            Status::PowerOff => 10,
+            Status::BadStore(_) => 11,
+            Status::NotYet(_) => 16,
+        }
+    }
+}

@@ -1,0 +1,204 @@
+//! What the client shows of records, by tables.
+
+mod failing;
+
+use super::*;
+use crate::tests::failing::FailingDevice;
+use device_model::{AREA, AreaBytes, PlainDevice, ROOM};
+use io_model::MemSink;
+use std::alloc::Global;
+use std::test::Fail;
+use upd_text::CallList;
+
+/// The record of a finished update to release-2.
+const RECORD: [u8; 75] = *b"MUP1\x00\x02\x00\x00\x05\x00\x00\x00\x00\x00\x00\x4b\
+\x00\x00\
+\x00\x02\x00\x0bapp.version\x00\x012\x00\x0dartifact_name\x00\x09release-2\
+\x0bsingle-file\x00";
+
+/// The two slots, by where they begin.
+const SLOT_0: u32 = 4_096;
+
+const SLOT_1: u32 = 135_168;
+
+const NEW: &[u8] = b"app.version=2\nartifact_name=release-2\n";
+
+/// An area with this selector, the record in the slot that begins there, and one byte of the record changed.
+fn area_with(alloc: Global, selector: u8, slot: u32, at: u32, byte: u8) -> Result<AreaBytes, Fail> {
+    let mut area = AreaBytes::zeros(alloc)?;
+    area.set(0, &[selector]);
+    if slot <= SLOT_1 && at < 75 {
+        area.set(slot, &RECORD);
+        area.set(slot + at, &[byte]);
+    }
+    Ok(area)
+}
+
+fn words_of(alloc: Global, word: &str) -> Result<Vec<String>, Fail> {
+    let mut words = Vec::new(alloc);
+    words.push(String::from_str(alloc, word)?)?;
+    Ok(words)
+}
+
+/// What the command says of the area, with a sink that fails at the put `failing`.
+fn said(
+    alloc: Global,
+    word: &str,
+    area: AreaBytes,
+    failing: u64,
+) -> Result<(Status, MemSink), Fail> {
+    let words = words_of(alloc, word)?;
+    let mut list = CallList::new(alloc);
+    list.push(failing)?;
+    let mut out = MemSink::new(alloc, 200_000, list)?;
+    let mut device = PlainDevice::new(alloc, area, ROOM)?;
+    let status = run(alloc, words.as_slice(), &mut out, &mut device);
+    Ok((status, out))
+}
+
+#[test]
+fn a_finished_record_shows_what_it_holds(rt: HostRuntime) -> Result<(), Fail> {
+    let shown = Status::Done(Good::Shown);
+    let marked = b"app.version=2\nartifact_name=release-2_INCONSISTENT\n".as_slice();
+    // the selector, the slot of the record, the byte that is changed and to what, the answer, the text
+    let rows: [(u8, u32, u32, u8, Status, &[u8]); 16] = [
+        (0, SLOT_0, 0, b'M', shown, NEW),
+        (1, SLOT_0, 0, b'M', shown, b""),
+        (1, SLOT_1, 0, b'M', shown, NEW),
+        (254, SLOT_0, 0, b'M', shown, NEW),
+        (255, SLOT_1, 0, b'M', shown, NEW),
+        (0, SLOT_0, 5, 1, shown, b""),
+        (0, SLOT_0, 5, 3, shown, b""),
+        (0, SLOT_0, 5, 4, shown, marked),
+        (0, SLOT_0, 4, 6, Status::NotYet(2), b"not yet 2\n"),
+        (0, SLOT_0, 4, 13, Status::NotYet(2), b"not yet 2\n"),
+        (0, SLOT_0, 8, 0, Status::NotYet(2), b"not yet 2\n"),
+        (0, SLOT_0, 15, 74, Status::NotYet(2), b"not yet 2\n"),
+        (0, SLOT_0, 15, 76, Status::NotYet(2), b"not yet 2\n"),
+        (0, SLOT_0, 22, b'z', Status::NotYet(2), b"not yet 2\n"),
+        (0, SLOT_0, 0, 1, Status::BadStore(0), b"bad store 0\n"),
+        (0, SLOT_0, 3, b'2', Status::BadStore(0), b"bad store 0\n"),
+    ];
+    for (selector, slot, at, byte, status, text) in rows {
+        let area = area_with(rt.alloc(), selector, slot, at, byte)?;
+        let (answer, out) = said(rt.alloc(), "show-provides", area, 9)?;
+        assert_eq!(rt; answer, status);
+        assert_eq!(rt; out.written(), text);
+    }
+    Ok(())
+}
+
+#[test]
+fn garbage_in_the_other_slot_has_no_meaning(rt: HostRuntime) -> Result<(), Fail> {
+    let mut area = area_with(rt.alloc(), 1, SLOT_1, 0, b'M')?;
+    area.set(SLOT_0, &[0x5a; 4_096]);
+    let (answer, out) = said(rt.alloc(), "show-provides", area, 9)?;
+    assert_eq!(rt; answer, Status::Done(Good::Shown));
+    assert_eq!(rt; out.written(), NEW);
+    Ok(())
+}
+
+#[test]
+fn other_words_are_told_as_such(rt: HostRuntime) -> Result<(), Fail> {
+    for word in ["", "show-provide", "show-providesx", "install", "--help"] {
+        let area = area_with(rt.alloc(), 0, SLOT_0, 0, b'M')?;
+        let (answer, out) = said(rt.alloc(), word, area, 9)?;
+        assert_eq!(rt; answer, Status::NotYet(1));
+        assert_eq!(rt; out.written(), b"not yet 1\n".as_slice());
+    }
+    Ok(())
+}
+
+#[test]
+fn a_sink_that_fails_has_a_front_of_the_text(rt: HostRuntime) -> Result<(), Fail> {
+    let rows: [(u64, Status, &[u8]); 3] = [
+        (0, Status::SinkFault, b""),
+        (1, Status::SinkFault, b"app.version=2\n"),
+        (2, Status::Done(Good::Shown), NEW),
+    ];
+    for (failing, status, text) in rows {
+        let area = area_with(rt.alloc(), 0, SLOT_0, 0, b'M')?;
+        let (answer, out) = said(rt.alloc(), "show-provides", area, failing)?;
+        assert_eq!(rt; answer, status);
+        assert_eq!(rt; out.written(), text);
+    }
+    Ok(())
+}
+
+#[test]
+fn exit_statuses(rt: HostRuntime) -> Result<(), Fail> {
+    let rows = [
+        (Status::Done(Good::Shown), 0),
+        (Status::DiskFault, 5),
+        (Status::NoMemory, 7),
+        (Status::SinkFault, 8),
+        (Status::PowerOff, 10),
+        (Status::BadStore(3), 11),
+        (Status::NotYet(2), 16),
+    ];
+    for (status, number) in rows {
+        assert_eq!(rt; status.number(), number);
+    }
+    Ok(())
+}
+
+#[test]
+fn a_device_that_fails_or_loses_power_is_told_as_such(rt: HostRuntime) -> Result<(), Fail> {
+    let words = words_of(rt.alloc(), "show-provides")?;
+    // how many calls go through, whether power is lost then, the answer, its text, the counts of faults, losses and events
+    let rows: [(u32, bool, Status, &[u8], (u64, u64, u32)); 7] = [
+        (0, false, Status::DiskFault, b"disk fault\n", (1, 0, 0)),
+        (1, false, Status::DiskFault, b"disk fault\n", (1, 0, 0)),
+        (2, false, Status::DiskFault, b"disk fault\n", (1, 0, 0)),
+        (0, true, Status::PowerOff, b"", (0, 1, 1)),
+        (1, true, Status::PowerOff, b"", (0, 1, 1)),
+        (2, true, Status::PowerOff, b"", (0, 1, 1)),
+        (3, true, Status::Done(Good::Shown), b"", (0, 0, 0)),
+    ];
+    for (left, loses, status, text, counts) in rows {
+        let mut out = MemSink::new(rt.alloc(), 100, CallList::new(rt.alloc()))?;
+        let mut device = FailingDevice::new(rt.alloc(), left, loses)?;
+        assert_eq!(rt;
+            run(rt.alloc(), words.as_slice(), &mut out, &mut device),
+            status
+        );
+        assert_eq!(rt; out.written(), text);
+        assert_eq!(rt; device.counts(), counts);
+    }
+    Ok(())
+}
+
+/// A record of 131,072 bytes: 129 pairs, most of them with a value of 1,024 bytes.
+fn largest_record(alloc: Global) -> Result<Vec<u8>, Fail> {
+    let mut bytes = Vec::with_capacity(alloc, 131_072)?;
+    bytes.extend_from_slice(
+        b"MUP1\x00\x02\x00\x00\x05\x00\x00\x00\x00\x02\x00\x00\x00\x00\x00\x81",
+    )?;
+    bytes.extend_from_slice(b"\x00\x0dartifact_name\x00\x01r")?;
+    for i in 0..128u8 {
+        let key = [b'b', b'0' + i / 10, b'0' + i % 10];
+        let length: usize = if i < 127 { 1_024 } else { 87 };
+        bytes.extend_from_slice(b"\x00\x03")?;
+        bytes.extend_from_slice(&key)?;
+        bytes.extend_from_slice(&[(length / 256) as u8, (length % 256) as u8])?;
+        for _ in 0..length {
+            bytes.push(b'v')?;
+        }
+    }
+    bytes.extend_from_slice(b"\x01x\x00")?;
+    Ok(bytes)
+}
+
+#[test]
+fn the_largest_record_is_shown_whole(rt: HostRuntime) -> Result<(), Fail> {
+    let record = largest_record(rt.alloc())?;
+    assert_eq!(rt; record.len(), 131_072);
+    let mut area = AreaBytes::zeros(rt.alloc())?;
+    area.set(SLOT_0, record.as_slice());
+    let (answer, out) = said(rt.alloc(), "show-provides", area, 200)?;
+    assert_eq!(rt; answer, Status::Done(Good::Shown));
+    assert_eq!(rt; out.written().len(), 130_791);
+    assert!(rt; out.written().starts_with(b"artifact_name=r\nb00=vvv"));
+    assert!(rt; out.written().ends_with(b"vvv\n"));
+    Ok(())
+}

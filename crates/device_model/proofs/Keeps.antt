@@ -1,0 +1,55 @@
+-- What a call that writes nothing leaves of the disk, whatever it answers.
+use Rattle.std.proofs.Common.{◌≡◌, ◌⊎◌, inl, inr, ⊎_elim, ℕ, ◌+◌, ◌<◌, ◌≤◌, Bool, true, false, List, [], ◌∷◌, length, refl, sym, ◌∙◌, ap, subst, arith}
+use Rattle.std.specs.Prelude.{Option, Some, None, Result, Ok, Err, option_map, MatchBool}
+use Rattle.device_model.specs.declared.calls.Down.{Down}
+use Rattle.device_model.specs.declared.calls.Down.TheVariants.{Off, Fault}
+use Rattle.device_model.specs.Disk.{Disk, IsApart, IsSynced, IsRefilled, IsTorn, WhereTold, IsSettled, unmarked, synced, MayHold, KeepsDisk}
+use Rattle.device_model.specs.State.{State, LosesPower, EndsRead, EndsSync}
+use Rattle.device_model.proofs.Refilled.{refilled_none, refilled_wider, unmarked_synced}
+
+pub same : (old new : Option Disk) → new ≡ old → KeepsDisk old new
+same old new e = record { adds = λ a h. subst (λ (d : Option Disk). MayHold d a) e h; settled = λ s. e }
+
+all_synced : (u : List Bool) → u ≡ unmarked u → (i : ℕ) → IsSynced u i
+all_synced u e i = subst (λ (v : List Bool). IsSynced v i) (sym e) (unmarked_synced u i)
+
+torn : (old new : Option Disk) → WhereTold (IsTorn 0 0) old new → KeepsDisk old new
+torn None None h = record { adds = λ a held. held; settled = λ s. refl }
+torn None (Some n) h = absurd h
+torn (Some o) None h = absurd h
+torn (Some o) (Some n) h = record {
+  adds = λ a held.
+      let area : a ≡ n.area = refilled_none (IsSynced n.unsynced) (λ i. subst (λ (u : List Bool). IsSynced u i) (sym h.unsynced) (unmarked_synced o.unsynced i)) n.area a held in
+      refilled_wider (λ i. IsSynced o.unsynced i × IsApart 0 0 i) (IsSynced o.unsynced) o.area a (λ i out. (out, inr (omega arith))) (subst (λ (b : List ℕ). IsRefilled (λ i. IsSynced o.unsynced i × IsApart 0 0 i) o.area b) (sym area) h.area);
+  settled = λ s.
+      let area : n.area ≡ o.area = refilled_none (λ i. IsSynced o.unsynced i × IsApart 0 0 i) (λ i. (all_synced o.unsynced s i, inr (omega arith))) o.area n.area h.area in
+      let flags : n.unsynced ≡ o.unsynced = h.unsynced ∙ sym s in
+      ap (λ (x : List ℕ). Some (record n { area = x })) area ∙ ap (λ (u : List Bool). Some (record o { unsynced = u })) flags;
+}
+
+synced_keeps : (old : Option Disk) → KeepsDisk old (option_map synced old)
+synced_keeps None = record { adds = λ a held. held; settled = λ s. refl }
+synced_keeps (Some o) = record {
+  adds = λ a held. refilled_wider (IsSynced (unmarked o.unsynced)) (IsSynced o.unsynced) o.area a (λ i out. unmarked_synced o.unsynced i) held;
+  settled = λ s. ap (λ (u : List Bool). Some (record o { unsynced = u })) (sym s);
+}
+
+pub loses : (old new : State) → LosesPower 0 0 old new → KeepsDisk old.disk new.disk
+loses old new l = torn old.disk new.disk l.disk
+
+off : (b : Bool) (L E K : Type 0) → MatchBool b L E → (L → K) → (E → K) → K
+off true L E K h f g = f h
+off false L E K h f g = g h
+
+stays : (old new : State) → new ≡ old → KeepsDisk old.disk new.disk
+stays old new e = same old.disk new.disk (ap (λ (s : State). s.disk) e)
+
+pub read_keeps : {T : Type 0} (old : State) (r : Result T Down) (new : State) → EndsRead old r new → KeepsDisk old.disk new.disk
+read_keeps old (Ok x) new h = stays old new h.1
+read_keeps old (Err Fault) new h = same old.disk new.disk (ap (λ (s : State). s.disk) h.1)
+read_keeps old (Err Off) new h = off old.on (LosesPower 0 0 old new) (new ≡ old) (KeepsDisk old.disk new.disk) h (loses old new) (stays old new)
+
+pub sync_keeps : {T : Type 0} (old : State) (r : Result T Down) (new : State) → EndsSync old r new → KeepsDisk old.disk new.disk
+sync_keeps old (Ok x) new h = subst (λ (d : Option Disk). KeepsDisk old.disk d) (sym (ap (λ (s : State). s.disk) h.1)) (synced_keeps old.disk)
+sync_keeps old (Err Fault) new h = same old.disk new.disk (ap (λ (s : State). s.disk) h.1)
+sync_keeps old (Err Off) new h = off old.on (LosesPower 0 0 old new) (new ≡ old) (KeepsDisk old.disk new.disk) h (loses old new) (stays old new)

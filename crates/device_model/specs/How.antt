@@ -1,0 +1,48 @@
+-- How a layer over the device ended.
+use Rattle.std.specs.Prelude.{◌≡◌, ℕ, Bool, true, false, List, [], ◌∷◌, ◌++◌, Option, Result, Ok, Err}
+use Rattle.upd_text.specs.Counts.{counted}
+use Rattle.device_model.specs.declared.calls.Event.{Event}
+use Rattle.device_model.specs.declared.calls.Event.TheVariants.{Loss}
+use Rattle.device_model.specs.declared.calls.Down.{Down}
+use Rattle.device_model.specs.declared.calls.Down.TheVariants.{Off, Fault}
+use Rattle.device_model.specs.Disk.{Disk, AddsNothing, IsTold, area_of}
+use Rattle.device_model.specs.State.{State}
+
+-- whether it went through, or what cut it off
+pub data How : Type 0 where
+  Through : How
+  PowerLost : How
+  DiskFailed : How
+
+-- the same of a call of the disk
+abbrev pub how_of : {T : Type 0} → Result T Down → How
+how_of (Ok x) = Through
+how_of (Err Off) = PowerLost
+how_of (Err Fault) = DiskFailed
+
+-- whether the device is on then, and its counts
+pub record Counts (is_on : Bool) (lost failed : ℕ) (new : State) : Type 0 where
+  pub on : new.on ≡ is_on
+  pub losses : new.losses ≡ lost
+  pub faults : new.faults ≡ failed
+
+abbrev pub EndsAs : How → State → State → Type 0
+EndsAs Through old new = Counts true old.losses old.faults new
+EndsAs PowerLost old new = Counts false (counted old.losses) old.faults new
+EndsAs DiskFailed old new = Counts true old.losses (counted old.faults) new
+
+-- what stands at the journal's end of a device that is on, and of one that lost its power
+abbrev pub loss_at : Bool → List Event
+loss_at true = []
+loss_at false = Loss ∷ []
+
+-- Nothing was started: at most power was lost or the disk failed, and the disk may hold nothing that it couldn't before.
+pub record Waited (how : How) (old new : State) : Type 0 where
+  pub ends : EndsAs how old new
+  pub journal : new.journal ≡ old.journal ++ loss_at new.on
+  pub adds : AddsNothing old.disk new.disk
+  pub told : IsTold old.disk → IsTold new.disk
+
+-- the area reads as before
+abbrev pub SameArea : State → State → Type 0
+SameArea old new = area_of new.disk ≡ area_of old.disk

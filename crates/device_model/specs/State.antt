@@ -1,0 +1,50 @@
+-- What a device means, and what each call leaves of that, by its answer.
+use Rattle.std.specs.Prelude.{◌≡◌, ℕ, ◌-◌, Bool, true, false, List, [], ◌∷◌, ◌++◌, length, take, drop, Option, option_map, IfSome, Result, Ok, Err, MatchBool, ⊤}
+use Rattle.upd_text.specs.Counts.{counted}
+use Rattle.device_model.specs.declared.calls.Down.{Down}
+use Rattle.device_model.specs.declared.calls.Down.TheVariants.{Off, Fault}
+use Rattle.device_model.specs.declared.calls.Event.{Event}
+use Rattle.device_model.specs.declared.calls.Event.TheVariants.{Loss}
+use Rattle.device_model.specs.Disk.{Disk, WhereTold, IsTorn, synced}
+
+-- what a device means
+pub record State : Type 0 where
+  pub on : Bool
+  pub disk : Option Disk  -- none where it isn't told
+  pub journal : List Event  -- since power came on
+  pub room : ℕ  -- how many events still fit
+  pub faults : ℕ
+  pub losses : ℕ
+
+abbrev pub after_sync : State → State
+after_sync old = record old { disk = option_map synced old.disk }
+
+-- power was lost in a call that may have written this range
+pub record LosesPower (at count : ℕ) (old new : State) : Type 0 where
+  pub rest : new ≡ record old { on = false; disk = new.disk; journal = old.journal ++ Loss ∷ []; room = old.room - 1; losses = counted old.losses }
+  pub disk : WhereTold (IsTorn at count) old.disk new.disk
+
+-- a call failed and did nothing: what was unsynced stays so
+abbrev pub Fails : State → State → Type 0
+Fails old new = new ≡ record old { faults = counted old.faults }
+
+-- a device that is off stays as it is; one that is on lost its power in this way
+abbrev pub GoesOff : Type 0 → State → State → Type 0
+GoesOff lost old new = MatchBool old.on lost (new ≡ old)
+
+-- what a read leaves
+abbrev pub EndsRead : {T : Type 0} → State → Result T Down → State → Type 0
+EndsRead old (Ok x) new = (old.on ≡ true) × (new ≡ old)
+EndsRead old (Err Fault) new = (old.on ≡ true) × Fails old new
+EndsRead old (Err Off) new = GoesOff (LosesPower 0 0 old new) old new
+
+-- what a sync leaves
+abbrev pub EndsSync : {T : Type 0} → State → Result T Down → State → Type 0
+EndsSync old (Ok x) new = (old.on ≡ true) × (new ≡ after_sync old)
+EndsSync old (Err Fault) new = (old.on ≡ true) × Fails old new
+EndsSync old (Err Off) new = GoesOff (LosesPower 0 0 old new) old new
+
+-- the bytes of the area from an offset on, where the call read them and the area is told
+abbrev pub Reads : {T : Type 0} → Option Disk → ℕ → List ℕ → Result T Down → Type 0
+Reads disk at into (Ok x) = IfSome disk (λ d. into ≡ take (length into) (drop at d.area))
+Reads disk at into (Err e) = ⊤

@@ -1,0 +1,61 @@
+//! The device in memory.
+
+use super::*;
+use std::alloc::Global;
+use std::test::Fail;
+use upd_text::{Name, NoMemory};
+
+/// A device with `ab` at this offset, and zeros elsewhere.
+fn device_at(alloc: Global, at: u32) -> Result<PlainDevice, NoMemory> {
+    let mut area = AreaBytes::zeros(alloc)?;
+    if at < AREA - 1 {
+        area.set(at, b"ab");
+    }
+    PlainDevice::new(alloc, area, ROOM)
+}
+
+#[test]
+fn a_device_reads_its_area(rt: HostRuntime) -> Result<(), Fail> {
+    let mut device = device_at(rt.alloc(), 4_096)?;
+    assert_eq!(rt; device.area().len(), 266_240);
+    assert_eq!(rt; device.room(), 168_001);
+    let mut into = [9; 4];
+    assert_eq!(rt; device.disk_sync(), Ok(()));
+    assert_eq!(rt; device.disk_read(4_095, &mut into), Ok(()));
+    assert_eq!(rt; into, [0, b'a', b'b', 0]);
+    assert_eq!(rt; device.journal().is_empty(), true);
+    Ok(())
+}
+
+#[test]
+fn the_last_bytes_of_an_area_can_be_set_and_read(rt: HostRuntime) -> Result<(), Fail> {
+    let mut device = device_at(rt.alloc(), 266_238)?;
+    assert_eq!(rt; device.room(), 168_001);
+    let mut into = [0; 2];
+    assert_eq!(rt; device.disk_read(266_238, &mut into), Ok(()));
+    assert_eq!(rt; into, [b'a', b'b']);
+    Ok(())
+}
+
+fn module(payload: u8) -> Option<Call> {
+    Some(Call::Module {
+        payload,
+        kind: Name::read(b"single-file").ok()?,
+        state: ModState::Cleanup,
+    })
+}
+
+#[test]
+fn events_are_kept_in_order(rt: HostRuntime) -> Result<(), Fail> {
+    let mut events = EventList::with_room(rt.alloc(), 2)?;
+    let call = module(0).ok_or("a name")?;
+    assert_eq!(rt; events.push(Event::Start(call.twin())), Ok(()));
+    assert_eq!(rt; events.push(Event::End(Answer::Exit(3).twin())), Ok(()));
+    assert_eq!(rt; events.room(), 0);
+    assert_eq!(rt; events.push(Event::Loss), Ok(()));
+    assert_eq!(rt; events.len(), 3);
+    assert!(rt; matches!(events.at(0), Event::Start(Call::Module { payload: 0, .. })));
+    assert!(rt; matches!(events.at(1), Event::End(Answer::Exit(3))));
+    assert!(rt; matches!(events.at(2), Event::Loss));
+    Ok(())
+}

@@ -1,0 +1,4 @@
+pub mod Sink
+pub mod MemSink
+pub mod Source
+pub mod MemSource

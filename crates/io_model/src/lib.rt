@@ -1,0 +1,19 @@
+//! Where texts are written, and where trees are read.
+#![tactic(auto)]
+
+mod mem_sink;
+mod mem_source;
+mod no_sink;
+mod sink;
+mod source;
+
+pub use mem_sink::MemSink;
+pub use mem_source::{FileList, MemSource, TreeFile};
+pub use no_sink::NoSink;
+pub use sink::{Sink, SinkFault};
+pub use source::{Source, SourceFault};
+
+#[cfg(test)]
+mod source_tests;
+#[cfg(test)]
+mod tests;

@@ -1,0 +1,5 @@
+pub mod Rows
+pub mod FirstLine
+pub mod Reading
+pub mod Faults
+pub mod SpellingLemmas

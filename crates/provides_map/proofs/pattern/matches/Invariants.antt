@@ -1,0 +1,13 @@
+use Rattle.std.proofs.Common.{◌≤◌, length, drop}
+use Rattle.provides_map.specs.Match.{is_match}
+use Rattle.provides_map.specs.Row.{Shows}
+use Rattle.provides_map.proofs.pattern.matches.Given as goal
+
+abbrev pub invariant-loop-i : goal.invariant-loop-i
+invariant-loop-i l = record {
+  within : l.i ≤ length l.pattern;
+  shows : Shows (is_match (drop l.i l.pattern)) l.row l.key;
+}
+
+abbrev pub decreases-loop-i : goal.decreases-loop-i
+decreases-loop-i l = l.i

@@ -1,0 +1,7 @@
+pub mod Pairs
+pub mod Last
+pub mod Match
+pub mod Row
+pub mod Place
+pub mod After
+pub mod ByKey

@@ -1,0 +1,9 @@
+pub mod Texts
+pub mod Loop
+pub mod Puts
+pub mod Record
+pub mod Again
+pub mod Front
+pub mod Marks
+pub mod Found
+pub mod Whole

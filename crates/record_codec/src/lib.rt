@@ -1,0 +1,20 @@
+//! The record of a deployment: read, written, and given another position.
+#![tactic(auto)]
+
+mod decoding;
+mod entry;
+mod fault;
+mod laws;
+mod position;
+mod reader;
+mod text;
+mod writer;
+
+pub use decoding::decode;
+pub use entry::{Db, Entry};
+pub use fault::DecodeFault;
+pub use laws::{broken_marks_the_name, faults_of_the_front, one_record};
+pub use writer::{encode_into, patch};
+
+#[cfg(test)]
+mod tests;

@@ -1,0 +1,9 @@
+//! The database of a device: two slots on its disk, of which a selector picks one.
+#![tactic(auto)]
+
+mod store;
+
+pub use store::{MountFault, Store};
+
+#[cfg(test)]
+mod tests;

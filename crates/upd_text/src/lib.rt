@@ -1,0 +1,18 @@
+//! Names, values, short texts and numbers.
+#![tactic(auto)]
+
+mod fault;
+mod laws;
+mod list;
+mod name;
+mod number;
+#[cfg(test)]
+mod tests;
+mod value;
+
+pub use fault::NameFault;
+pub use laws::{names_and_values, numbers_round_trip};
+pub use list::{CallList, ListOf, NoMemory};
+pub use name::Name;
+pub use number::{Text32, decimal, read_decimal, read_device_type};
+pub use value::Value;
