@@ -56,3 +56,8 @@ pub fn read_at<F: Read + Seek>(file: &mut F, at: u64, into: &mut [u8]) -> io::Re
     file.seek(SeekFrom::Start(at))?;
     file.read_exact(into)
 }
+
+pub fn write_at<F: Write + Seek>(file: &mut F, at: u64, bytes: &[u8]) -> io::Result<()> {
+    file.seek(SeekFrom::Start(at))?;
+    file.write_all(bytes)
+}

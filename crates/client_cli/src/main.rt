@@ -5,6 +5,7 @@ ghost use Rattle.std.specs.Prelude.{IfOk};
 ghost use Rattle.device_model.specs.Plain.{state_of};
 ghost use Rattle.client_cli.specs.Host.{IsNew};
 
+mod children;
 mod device;
 mod fault;
 mod files;
@@ -16,10 +17,10 @@ use crate::fault::HostFault;
 use crate::sink::HostSink;
 use crate::words::words_of;
 use client_top::{Status, read_command, run};
-use device_model::{AreaBytes, PlainDevice, ROOM};
+use device_model::{AreaBytes, ExitList, PlainDevice, ROOM};
 use std::alloc::Global;
 use std::fs::{File, OpenOptions};
-use std::process::ExitCode;
+use std::process::{ExitCode, Processes};
 use std::rt::Files;
 use upd_text::NoMemory;
 
@@ -44,13 +45,14 @@ fn cannot_start<R: Eprint>(rt: &R, fault: HostFault) -> ExitCode {
 fn plain_device(alloc: Global) -> Result<PlainDevice, NoMemory>
     ensures { IfOk result (λ d. IsNew (state_of d)) }
 {
-    PlainDevice::new(alloc, AreaBytes::zeros(alloc)?, ROOM)
+    PlainDevice::new(alloc, AreaBytes::zeros(alloc)?, ROOM, ExitList::new(alloc))
 }
 
-/// Does what the words say.
-fn obey<R: Files<File = File> + Print + Drop>(
+/// Does what the words say with the device of a data folder.
+fn obey<R: Files<File = File> + Processes + Print + Drop>(
     rt: R,
     alloc: Global,
+    folder: &str,
     words: &[String],
 ) -> Result<Status, HostFault> {
     if read_command(words).is_none() {
@@ -60,8 +62,8 @@ fn obey<R: Files<File = File> + Print + Drop>(
         let mut out = HostSink::new(rt);
         return Ok(run(alloc, words, &mut out, &mut device));
     }
-    let mut device = HostDevice::attach(&rt, alloc, FOLDER)?;
-    let mut out = HostSink::new(rt);
+    let mut device = HostDevice::attach(&rt, alloc, folder)?;
+    let mut out = HostSink::new(&rt);
     Ok(run(alloc, words, &mut out, &mut device))
 }
 
@@ -72,7 +74,7 @@ fn main(rt: HostRuntime) -> ExitCode {
     let Ok(words) = words_of(&rt) else {
         return cannot_start(&rt, HostFault::NoMemory);
     };
-    match obey(&rt, alloc, words.as_slice()) {
+    match obey(&rt, alloc, FOLDER, words.as_slice()) {
         Ok(status) => ExitCode::from(status.number()),
         Err(fault) => cannot_start(&rt, fault),
     }

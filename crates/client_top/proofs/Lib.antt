@@ -1,3 +1,6 @@
 pub mod Texts
 pub mod Dids
 pub mod Says
+pub mod Drives
+pub mod Resumes
+pub mod Enters

@@ -7,9 +7,9 @@ use Rattle.io_model.specs.Sink.{Written, Writes, WritesFront}
 use Rattle.record_codec.specs.declared.entry.Db.{Db}
 use Rattle.slot_store.specs.Slots.{IsAt}
 use Rattle.client_top.specs.declared.status.Command.{Command}
-use Rattle.client_top.specs.declared.status.Good.TheVariants.{Shown}
+use Rattle.client_top.specs.declared.status.Good.TheVariants.{Committed, Shown}
 use Rattle.client_top.specs.declared.status.Status.{Status}
-use Rattle.client_top.specs.declared.status.Status.TheVariants.{Done, DiskFault, NoMemory, SinkFault, PowerOff, BadStore, NotYet}
+use Rattle.client_top.specs.declared.status.Status.TheVariants.{Done, NoUpdate, Inconsistent, DiskFault, NoMemory, SinkFault, PowerOff, BadStore, NotInstalled, NotYet}
 use Rattle.client_top.specs.Texts.{text_of, shown}
 use Rattle.client_top.specs.Obeyed.{Did, IsText, Said, whole, cut, Obeyed}
 use Rattle.client_top.specs.Deeds.{IsTelling}
@@ -20,12 +20,16 @@ did-asked {old = old} {new = new} {status = status} is d = subst (λ (a : Option
 
 -- an answer that shows nothing has its own text
 pub text-told : (disk : Option Disk) (status : Status) → IsTelling status → IsText disk status (text_of status)
+text-told disk (Done Committed) h = refl
 text-told disk (Done Shown) h = absurd h
+text-told disk NoUpdate h = refl
+text-told disk Inconsistent h = refl
 text-told disk DiskFault h = refl
 text-told disk NoMemory h = refl
 text-told disk SinkFault h = refl
 text-told disk PowerOff h = refl
 text-told disk (BadStore offset) h = refl
+text-told disk (NotInstalled how) h = refl
 text-told disk (NotYet what) h = refl
 
 -- what is shown is the one database that stands

@@ -6,7 +6,7 @@ use Rattle.slot_store.specs.declared.store.MountFault.{MountFault}
 use Rattle.slot_store.specs.declared.store.MountFault.TheVariants as mount_fault
 use Rattle.client_top.specs.declared.status.Good.TheVariants.{Shown}
 use Rattle.client_top.specs.declared.status.Status.{Status}
-use Rattle.client_top.specs.declared.status.Status.TheVariants.{Done, DiskFault, NoMemory, SinkFault, PowerOff, BadStore, NotYet}
+use Rattle.client_top.specs.declared.status.Status.TheVariants.{Done, NoUpdate, Inconsistent, DiskFault, NoMemory, SinkFault, PowerOff, BadStore, NotInstalled, NotYet}
 use Rattle.client_top.specs.declared.act.Deed.{Deed}
 use Rattle.client_top.specs.declared.act.Deed.TheVariants.{Tell, Show}
 

@@ -4,3 +4,4 @@ pub mod Boot
 pub mod Obeyed
 pub mod Deeds
 pub mod Numbers
+pub mod Drives

@@ -6,23 +6,29 @@ use Rattle.device_model.specs.State.{State}
 use Rattle.device_model.specs.How.{How, Through, PowerLost, DiskFailed, EndsAs, SameArea, loss_at}
 use Rattle.io_model.specs.Sink.{Written, Writes, WritesFront}
 use Rattle.record_codec.specs.declared.entry.Db.{Db}
+use Rattle.flow_table.specs.declared.position.Outcome.{Outcome}
+use Rattle.flow_table.specs.declared.position.Outcome.TheVariants as outcome
 use Rattle.slot_store.specs.Slots.{May, Sound, stood}
 use Rattle.client_top.specs.declared.status.Command.{Command}
-use Rattle.client_top.specs.declared.status.Command.TheVariants.{ShowProvides}
-use Rattle.client_top.specs.declared.status.Good.TheVariants.{Shown}
+use Rattle.client_top.specs.declared.status.Command.TheVariants.{Resume, ShowProvides}
+use Rattle.client_top.specs.declared.status.Good.TheVariants.{Committed, Shown}
 use Rattle.client_top.specs.declared.status.Status.{Status}
-use Rattle.client_top.specs.declared.status.Status.TheVariants.{Done, DiskFault, NoMemory, SinkFault, PowerOff, BadStore, NotYet}
-use Rattle.client_top.specs.Boot.{Found, Answers, finds, is_plain, End, Nothing, Halted, Boot}
+use Rattle.client_top.specs.declared.status.Status.TheVariants.{Done, NoUpdate, Inconsistent, DiskFault, NoMemory, SinkFault, PowerOff, BadStore, NotInstalled, NotYet}
+use Rattle.client_top.specs.Boot.{Found, Answers, finds, is_plain, End, Nothing, Ended, Halted, Boot}
 use Rattle.client_top.specs.Texts.{text_of, shown}
 
 -- the end of a boot that an answer tells
 abbrev pub end_of : Status → End
+end_of (Done Committed) = Ended outcome.Committed
 end_of (Done Shown) = Nothing
+end_of NoUpdate = Nothing
+end_of Inconsistent = Ended outcome.Inconsistent
 end_of DiskFault = Halted
 end_of NoMemory = Nothing
 end_of SinkFault = Nothing
 end_of PowerOff = Halted
 end_of (BadStore offset) = Nothing
+end_of (NotInstalled how) = Ended how
 end_of (NotYet what) = Nothing
 
 -- what cut the command off
@@ -33,7 +39,8 @@ how_of _ = Through
 
 -- an answer that a database gives is what the command finds over it
 abbrev pub Due : Found → Status → Type 0
-Due found (Done good) = found ≡ Answers (Done good)
+Due found (Done Shown) = found ≡ Answers (Done Shown)
+Due found NoUpdate = found ≡ Answers NoUpdate
 Due found (NotYet what) = found ≡ Answers (NotYet what)
 Due found status = ⊤
 
@@ -48,23 +55,44 @@ abbrev pub IsAsked : Option Command → Type 0
 IsAsked None = ⊥
 IsAsked (Some command) = ⊤
 
+-- a deployment that was kept or taken back is no success
+abbrev pub IsNotInstalled : Outcome → Type 0
+IsNotInstalled outcome.Kept = ⊤
+IsNotInstalled outcome.RolledBack = ⊤
+IsNotInstalled _ = ⊥
+
 -- why an answer came, of which the database alone doesn't say it
 abbrev pub HasCause : Option Command → Option (List ℕ) → Status → Type 0
+HasCause asked area (Done Committed) = asked ≡ Some Resume
 HasCause asked area (Done Shown) = asked ≡ Some ShowProvides
+HasCause asked area NoUpdate = asked ≡ Some Resume
+HasCause asked area Inconsistent = asked ≡ Some Resume
 HasCause asked area DiskFault = IsAsked asked
 HasCause asked area NoMemory = IsAsked asked
 HasCause asked area SinkFault = ⊥
 HasCause asked area PowerOff = IsAsked asked
 HasCause asked area (BadStore offset) = IsAsked asked × (offset ≡ 0) × IfSome area (λ a. stood a ≡ Err 0)
+HasCause asked area (NotInstalled how) = (asked ≡ Some Resume) × IsNotInstalled how
 HasCause asked area (NotYet what) =
     ((asked ≡ None) × (what ≡ 1)) ⊎ (IsAsked asked × (what ≡ 2) × IfSome area (λ a. IsUnread (stood a)))
 
--- the device was read through, so that nothing is unsynced
+-- the disk was read or written through, so that nothing is unsynced
 abbrev pub IsRead : Status → Type 0
-IsRead (Done Shown) = ⊤
-IsRead (BadStore offset) = ⊤
+IsRead DiskFault = ⊥
+IsRead NoMemory = ⊥
+IsRead SinkFault = ⊥
+IsRead PowerOff = ⊥
 IsRead (NotYet what) = what ≡ 2
-IsRead status = ⊥
+IsRead status = ⊤
+
+abbrev pub IsNothing : End → Type 0
+IsNothing Nothing = ⊤
+IsNothing _ = ⊥
+
+-- a command that shows starts nothing and writes nothing, and neither does one that ends before it begins
+abbrev pub IsQuiet : Option Command → Status → Type 0
+IsQuiet (Some Resume) status = IsNothing (end_of status)
+IsQuiet asked status = ⊤
 
 -- The database d may stand, and one that could stand before leads to it.
 pub record Came (asked : Option Command) (old : Option Disk) (events : List Event) (status : Status) (d : Db) : Type 0 where
@@ -79,8 +107,8 @@ pub record Did (asked : Option Command) (old new : State) (status : Status) : Ty
   pub journal : new.journal ≡ old.journal ++ events ++ loss_at new.on
   pub ends : EndsAs (how_of status) old new
   pub cause : HasCause asked (area_of old.disk) status
-  pub quiet : events ≡ []
-  pub leaves : how_of status ≢ PowerLost → SameArea old new
+  pub quiet : IsQuiet asked status → events ≡ []
+  pub leaves : IsQuiet asked status → how_of status ≢ PowerLost → SameArea old new
   pub settled : IsRead status → IsSettled new.disk
   pub sound : Sound old.disk → Sound new.disk
   pub came : IsTold old.disk → (d : Db) → May new.disk d → Came asked old.disk events status d

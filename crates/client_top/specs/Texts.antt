@@ -4,8 +4,12 @@ use Rattle.std.specs.List.{flat_map}
 use Rattle.std.specs.Fmt.{decimal}
 use Rattle.record_codec.specs.declared.entry.Db.{Db}
 use Rattle.record_codec.specs.Held.{held, marked}
+use Rattle.flow_table.specs.declared.position.Outcome.{Outcome}
+use Rattle.flow_table.specs.declared.position.Outcome.TheVariants.{Undecided, Kept, RolledBack}
+use Rattle.flow_table.specs.declared.position.Outcome.TheVariants as outcome
+use Rattle.client_top.specs.declared.status.Good.TheVariants.{Committed, Shown}
 use Rattle.client_top.specs.declared.status.Status.{Status}
-use Rattle.client_top.specs.declared.status.Status.TheVariants.{Done, DiskFault, NoMemory, SinkFault, PowerOff, BadStore, NotYet}
+use Rattle.client_top.specs.declared.status.Status.TheVariants.{Done, NoUpdate, Inconsistent, DiskFault, NoMemory, SinkFault, PowerOff, BadStore, NotInstalled, NotYet}
 
 -- key=value and a newline
 unfoldable pub line : List ℕ × List ℕ → List ℕ
@@ -20,12 +24,24 @@ mark_if false p = p
 abbrev pub shown : Db → List ℕ
 shown db = flat_map line (held db)
 
+-- how a deployment ended that installed nothing
+unfoldable pub outcome_text : Outcome → List ℕ
+outcome_text Undecided = codes "undecided"
+outcome_text Kept = codes "kept"
+outcome_text outcome.Committed = codes "committed"
+outcome_text RolledBack = codes "rolled back"
+outcome_text outcome.Inconsistent = codes "inconsistent"
+
 -- the text of an answer that shows nothing
 unfoldable pub text_of : Status → List ℕ
-text_of (Done good) = []
+text_of (Done Committed) = codes "committed\n"
+text_of (Done Shown) = []
+text_of NoUpdate = codes "no update\n"
+text_of Inconsistent = codes "inconsistent\n"
 text_of DiskFault = codes "disk fault\n"
 text_of NoMemory = codes "no memory\n"
 text_of SinkFault = []
 text_of PowerOff = []
 text_of (BadStore offset) = codes "bad store " ++ decimal offset ++ codes "\n"
+text_of (NotInstalled how) = codes "not installed: " ++ outcome_text how ++ codes "\n"
 text_of (NotYet what) = codes "not yet " ++ decimal what ++ codes "\n"

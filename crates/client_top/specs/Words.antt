@@ -3,10 +3,12 @@ use Rattle.std.specs.Prelude.{ℕ, if◌then◌else◌, List, [], ◌∷◌, Opt
 use Rattle.std.specs.Global.{Global}
 use Rattle.std.specs.Str.{bytes_eq}
 use Rattle.client_top.specs.declared.status.Command.{Command}
-use Rattle.client_top.specs.declared.status.Command.TheVariants.{ShowProvides}
+use Rattle.client_top.specs.declared.status.Command.TheVariants.{Resume, ShowProvides}
 
 abbrev pub one_word : List ℕ → Option Command
-one_word word = if bytes_eq word (codes "show-provides") then Some ShowProvides else None
+one_word word =
+    if bytes_eq word (codes "show-provides") then Some ShowProvides
+    else (if bytes_eq word (codes "resume") then Some Resume else None)
 
 -- the command that the words are, where they are one of the forms
 unfoldable pub command_of : List (String Global) → Option Command

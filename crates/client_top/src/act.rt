@@ -1,10 +1,13 @@
 //! What each command does, but for its text.
 
 ghost use Rattle.std.specs.Prelude.{◌≡◌, ◌≤◌, true};
-ghost use Rattle.client_top.specs.Boot.{is_plain, is_none, is_idle};
+ghost use Rattle.client_top.specs.Boot.{is_plain, is_none, is_readable};
 ghost use Rattle.client_top.specs.Obeyed.{Did};
-ghost use Rattle.client_top.specs.Deeds.{status_of, IsShown, not_mounted, bad_store};
+ghost use Rattle.slot_store.specs.Slots.{IsOf};
+ghost use Rattle.client_top.specs.Deeds.{status_of, IsShown, IsTelling, not_mounted, bad_store};
+ghost use Rattle.client_top.specs.Drives.{WentOn};
 
+use crate::drive::{after, clean_up, entered};
 use crate::status::{Command, Status};
 use device_model::Device;
 use flow_table::State;
@@ -20,10 +23,10 @@ pub(crate) enum Deed {
     Show(Store),
 }
 
-fn is_idle(state: State) -> bool
-    ensures { result ≡ is_idle state }
+fn is_readable(state: State) -> bool
+    ensures { result ≡ is_readable state }
 {
-    matches!(state, State::Idle)
+    matches!(state, State::Idle | State::Cleanup)
 }
 
 fn is_none(scripts: &ScriptList) -> bool
@@ -37,7 +40,7 @@ fn is_plain(db: &Db) -> bool
 {
     match db {
         Db::Empty => true,
-        Db::Full(entry) => is_idle(entry.position.state) && is_none(&entry.scripts),
+        Db::Full(entry) => is_readable(entry.position.state) && is_none(&entry.scripts),
     }
 }
 
@@ -80,15 +83,49 @@ fn show_provides<D: Device>(alloc: Global, device: &mut D) -> Deed
     }
 }
 
+/// Goes on with the deployment that the store holds.
+fn go_on<D: Device>(store: Store, device: &mut D) -> Status
+    requires on { (D.means device.old).on ≡ true }
+    requires room { 3 ≤ (D.means device.old).room }
+    requires plain { is_plain store.db ≡ true }
+    requires of { IsOf store.picked (D.means device.old).disk }
+    ensures { WentOn store.db result (D.means device.old) (D.means device.new) }
+{
+    let mut store = store;
+    match entered(store.db()) {
+        Some(position) => after(clean_up(&mut store, device, position)),
+        None => Status::NoUpdate,
+    }
+}
+
+fn resume<D: Device>(alloc: Global, device: &mut D) -> Status
+    requires on { (D.means device.old).on ≡ true }
+    requires room { 3 ≤ (D.means device.old).room }
+    ensures telling { IsTelling result }
+    ensures did { Did (Some Command.Resume) (D.means device.old) (D.means device.new) result }
+{
+    match Store::mount(alloc, device) {
+        Ok(store) => {
+            if is_plain(store.db()) {
+                go_on(store, device)
+            } else {
+                Status::NotYet(2)
+            }
+        }
+        Err(fault) => not_mounted(fault),
+    }
+}
+
 /// Does what the command says, but for its text.
 pub(crate) fn act<D: Device>(alloc: Global, asked: Option<Command>, device: &mut D) -> Deed
     requires on { (D.means device.old).on ≡ true }
-    requires room { 1 ≤ (D.means device.old).room }
+    requires room { 3 ≤ (D.means device.old).room }
     ensures shows { IsShown result (D.means device.new).disk }
     ensures did { Did asked (D.means device.old) (D.means device.new) (status_of result) }
 {
     match asked {
         None => Deed::Tell(Status::NotYet(1)),
         Some(Command::ShowProvides) => show_provides(alloc, device),
+        Some(Command::Resume) => Deed::Tell(resume(alloc, device)),
     }
 }

@@ -3,6 +3,7 @@
 
 mod act;
 mod call;
+mod drive;
 mod line;
 mod show;
 mod status;

@@ -8,10 +8,10 @@ ghost use Rattle.provides_map.specs.After.{artifact_name};
 ghost use Rattle.provides_map.specs.Pairs.{IsMap};
 ghost use Rattle.io_model.specs.Sink.{Puts};
 ghost use Rattle.record_codec.specs.Held.{marked, held_of};
-ghost use Rattle.client_top.specs.Texts.{line, mark_if, shown, text_of};
+ghost use Rattle.client_top.specs.Texts.{line, mark_if, outcome_text, shown, text_of};
 
 use crate::line::Line;
-use crate::status::Status;
+use crate::status::{Good, Status};
 use flow_table::Outcome;
 use io_model::{Sink, SinkFault};
 use provides_map::Provides;
@@ -128,18 +128,46 @@ fn numbered(front: &[u8], n: u32) -> Line
     text
 }
 
+#[tactic(auto, unfolding(crate::specs::Texts::outcome_text))]
+fn outcome_text(outcome: Outcome) -> &'static [u8]
+    ensures text { result.now ≡ outcome_text outcome }
+    ensures short { length result.now ≤ 32 }
+{
+    match outcome {
+        Outcome::Undecided => b"undecided",
+        Outcome::Kept => b"kept",
+        Outcome::Committed => b"committed",
+        Outcome::RolledBack => b"rolled back",
+        Outcome::Inconsistent => b"inconsistent",
+    }
+}
+
+fn not_installed(outcome: Outcome) -> Line
+    ensures { result ≡ codes "not installed: " ++ outcome_text outcome ++ codes "\n" }
+{
+    let mut text = Line::new();
+    text.add(b"not installed: ");
+    text.add(outcome_text(outcome));
+    text.add(b"\n");
+    text
+}
+
 /// Writes the text of an answer that shows nothing.
 #[tactic(auto, unfolding(crate::specs::Texts::text_of))]
 pub(crate) fn say<O: Sink>(out: &mut O, status: Status) -> Result<(), SinkFault>
     ensures { Puts (O.means out.old) (text_of status) result (O.means out.new) }
 {
     match status {
-        Status::Done(_) => Ok(()),
+        Status::Done(Good::Committed) => out.put(b"committed\n"),
+        Status::Done(Good::Shown) => Ok(()),
+        Status::NoUpdate => out.put(b"no update\n"),
+        Status::Inconsistent => out.put(b"inconsistent\n"),
         Status::DiskFault => out.put(b"disk fault\n"),
         Status::NoMemory => out.put(b"no memory\n"),
         Status::SinkFault => Ok(()),
         Status::PowerOff => Ok(()),
         Status::BadStore(offset) => out.put(numbered(b"bad store ", offset).bytes()),
+        Status::NotInstalled(outcome) => out.put(not_installed(outcome).bytes()),
         Status::NotYet(what) => out.put(numbered(b"not yet ", what).bytes()),
     }
 }

@@ -2,15 +2,19 @@
 
 ghost use Rattle.std.specs.Prelude.{◌≡◌};
 
+use flow_table::Outcome;
+
 /// What the client can be told to do.
 #[derive(Clone, Copy, Debug, PartialEq, Eq)]
 pub enum Command {
+    Resume,
     ShowProvides,
 }
 
 /// What a command did.
 #[derive(Clone, Copy, Debug, PartialEq, Eq)]
 pub enum Good {
+    Committed,
     Shown,
 }
 
@@ -19,9 +23,13 @@ pub enum Good {
 pub enum Status {
     /// It did what it says.
     Done(Good),
+    /// There is no deployment to go on with.
+    NoUpdate,
+    /// The deployment ended, and the old and the new are mixed.
+    Inconsistent,
     /// The disk failed.
     DiskFault,
-    /// Want of memory.
+    /// Want of memory, before anything was started.
     NoMemory,
     /// The sink failed, and a front of the text was written.
     SinkFault,
@@ -29,7 +37,9 @@ pub enum Status {
     PowerOff,
     /// The store is no record; the offset of its first wrong field.
     BadStore(u32),
-    /// The words are no form that is built so far (1), or the record isn't a finished one without scripts (2).
+    /// The deployment ended, and the old is kept or was taken back.
+    NotInstalled(Outcome),
+    /// The words are no form that is built so far (1), or the record isn't one that can be read so far (2).
     NotYet(u32),
 }
 
@@ -42,11 +52,14 @@ impl Status {
     {
         match self {
             Status::Done(_) => 0,
+            Status::NoUpdate => 2,
+            Status::Inconsistent => 3,
             Status::DiskFault => 5,
             Status::NoMemory => 7,
             Status::SinkFault => 8,
             Status::PowerOff => 10,
             Status::BadStore(_) => 11,
+            Status::NotInstalled(_) => 14,
             Status::NotYet(_) => 16,
         }
     }

@@ -4,7 +4,8 @@ mod failing;
 
 use super::*;
 use crate::tests::failing::FailingDevice;
-use device_model::{AREA, AreaBytes, PlainDevice, ROOM};
+use device_model::{AREA, AreaBytes, ExitList, PlainDevice, ROOM};
+use flow_table::Outcome;
 use io_model::MemSink;
 use std::alloc::Global;
 use std::test::Fail;
@@ -51,7 +52,7 @@ fn said(
     let mut list = CallList::new(alloc);
     list.push(failing)?;
     let mut out = MemSink::new(alloc, 200_000, list)?;
-    let mut device = PlainDevice::new(alloc, area, ROOM)?;
+    let mut device = PlainDevice::new(alloc, area, ROOM, ExitList::new(alloc))?;
     let status = run(alloc, words.as_slice(), &mut out, &mut device);
     Ok((status, out))
 }
@@ -200,5 +201,97 @@ fn the_largest_record_is_shown_whole(rt: HostRuntime) -> Result<(), Fail> {
     assert_eq!(rt; out.written().len(), 130_791);
     assert!(rt; out.written().starts_with(b"artifact_name=r\nb00=vvv"));
     assert!(rt; out.written().ends_with(b"vvv\n"));
+    Ok(())
+}
+
+/// What `resume` says of a record with this state, outcome and number of states.
+fn resumed(
+    alloc: Global,
+    state: u8,
+    outcome: u8,
+    n: u8,
+) -> Result<(Status, MemSink, PlainDevice), Fail> {
+    let mut area = AreaBytes::zeros(alloc)?;
+    area.set(SLOT_0, &RECORD);
+    area.set(SLOT_0 + 4, &[state]);
+    area.set(SLOT_0 + 5, &[outcome]);
+    area.set(SLOT_0 + 8, &[n]);
+    let words = words_of(alloc, "resume")?;
+    let mut out = MemSink::new(alloc, 100, CallList::new(alloc))?;
+    let mut device = PlainDevice::new(alloc, area, ROOM, ExitList::new(alloc))?;
+    let status = run(alloc, words.as_slice(), &mut out, &mut device);
+    Ok((status, out, device))
+}
+
+fn byte_at(device: &PlainDevice, at: usize) -> Option<u8> {
+    device.area().get(at).copied()
+}
+
+#[test]
+fn a_cleanup_is_resumed(rt: HostRuntime) -> Result<(), Fail> {
+    // state, outcome and n in the record; the answer, its text, the events, the selector, and n in the picked slot
+    let rows: [(u8, u8, u8, Status, &[u8], u32, u8, u8); 8] = [
+        (
+            11,
+            2,
+            4,
+            Status::Done(Good::Committed),
+            b"committed\n",
+            2,
+            0,
+            5,
+        ),
+        (
+            11,
+            2,
+            28,
+            Status::Done(Good::Committed),
+            b"committed\n",
+            0,
+            1,
+            28,
+        ),
+        (
+            11,
+            1,
+            4,
+            Status::NotInstalled(Outcome::Kept),
+            b"not installed: kept\n",
+            2,
+            0,
+            5,
+        ),
+        (
+            11,
+            3,
+            4,
+            Status::NotInstalled(Outcome::RolledBack),
+            b"not installed: rolled back\n",
+            2,
+            0,
+            5,
+        ),
+        (11, 4, 27, Status::Inconsistent, b"inconsistent\n", 2, 0, 28),
+        (11, 4, 28, Status::Inconsistent, b"inconsistent\n", 0, 1, 28),
+        (0, 2, 5, Status::NoUpdate, b"no update\n", 0, 0, 5),
+        (2, 0, 2, Status::NotYet(2), b"not yet 2\n", 0, 0, 2),
+    ];
+    for (state, outcome, n, status, text, events, selector, left) in rows {
+        let (answer, out, device) = resumed(rt.alloc(), state, outcome, n)?;
+        assert_eq!(rt; answer, status);
+        assert_eq!(rt; out.written(), text);
+        assert_eq!(rt; device.journal().len(), events);
+        assert_eq!(rt; byte_at(&device, 0), Some(selector));
+        let slot = if selector == 0 { 4_096 } else { 135_168 };
+        assert_eq!(rt; byte_at(&device, slot + 8), Some(left));
+    }
+    Ok(())
+}
+
+#[test]
+fn an_empty_store_has_no_update(rt: HostRuntime) -> Result<(), Fail> {
+    let (answer, out) = said(rt.alloc(), "resume", AreaBytes::zeros(rt.alloc())?, 9)?;
+    assert_eq!(rt; answer, Status::NoUpdate);
+    assert_eq!(rt; out.written(), b"no update\n".as_slice());
     Ok(())
 }

@@ -10,8 +10,14 @@ use crate::status::Command;
 pub fn read_command(words: &[String]) -> Option<Command>
     ensures { result ≡ command_of words.now }
 {
-    match words {
-        [word] if word.as_bytes() == b"show-provides".as_slice() => Some(Command::ShowProvides),
-        _ => None,
+    let [word] = words else {
+        return None;
+    };
+    if word.as_bytes() == b"show-provides".as_slice() {
+        return Some(Command::ShowProvides);
     }
+    if word.as_bytes() == b"resume".as_slice() {
+        return Some(Command::Resume);
+    }
+    None
 }

@@ -4,7 +4,10 @@ use Rattle.std.specs.Prelude.{Option, Some, None, Result, Ok, Err, option_map, M
 use Rattle.device_model.specs.declared.calls.Down.{Down}
 use Rattle.device_model.specs.declared.calls.Down.TheVariants.{Off, Fault}
 use Rattle.device_model.specs.Disk.{Disk, IsApart, IsSynced, IsRefilled, IsTorn, WhereTold, IsSettled, unmarked, synced, MayHold, KeepsDisk}
-use Rattle.device_model.specs.State.{State, LosesPower, EndsRead, EndsSync}
+use Rattle.device_model.specs.declared.calls.Call.{Call}
+use Rattle.device_model.specs.declared.calls.Ran.{Ran}
+use Rattle.device_model.specs.declared.calls.Ran.TheVariants as ran
+use Rattle.device_model.specs.State.{State, LosesPower, LosesChild, EndsRead, EndsSync, EndsChild}
 use Rattle.device_model.proofs.Refilled.{refilled_none, refilled_wider, unmarked_synced}
 
 pub same : (old new : Option Disk) → new ≡ old → KeepsDisk old new
@@ -53,3 +56,12 @@ pub sync_keeps : {T : Type 0} (old : State) (r : Result T Down) (new : State) �
 sync_keeps old (Ok x) new h = subst (λ (d : Option Disk). KeepsDisk old.disk d) (sym (ap (λ (s : State). s.disk) h.1)) (synced_keeps old.disk)
 sync_keeps old (Err Fault) new h = same old.disk new.disk (ap (λ (s : State). s.disk) h.1)
 sync_keeps old (Err Off) new h = off old.on (LosesPower 0 0 old new) (new ≡ old) (KeepsDisk old.disk new.disk) h (loses old new) (stays old new)
+
+loses-child : (c : Call) (old new : State) → LosesChild c old new → KeepsDisk old.disk new.disk
+loses-child c old new (inl before) = loses old new before
+loses-child c old new (inr after) = torn old.disk new.disk after.disk
+
+pub child_keeps : (c : Call) (old : State) (r : Ran) (new : State) → EndsChild c old r new → KeepsDisk old.disk new.disk
+child_keeps c old (ran.Exit code) new h = same old.disk new.disk (ap (λ (s : State). s.disk) h.1)
+child_keeps c old ran.NotStarted new h = same old.disk new.disk (ap (λ (s : State). s.disk) h.1)
+child_keeps c old ran.Off new h = off old.on (LosesChild c old new) (new ≡ old) (KeepsDisk old.disk new.disk) h (loses-child c old new) (stays old new)

@@ -1,3 +1,4 @@
 pub mod Keeps
 pub mod Refilled
 pub mod Waits
+pub mod Writes

@@ -78,7 +78,7 @@ sync-waits old (Ok x) new on h k = record {
 sync-waits old (Err Fault) new on h k = waited-failed old new on h.1
 sync-waits old (Err Off) new on h k = waited-off old new on h k
 
-ends-then : (how : How) (old mid new : State) → EndsAs Through old mid → EndsAs how mid new → EndsAs how old new
+pub ends-then : (how : How) (old mid new : State) → EndsAs Through old mid → EndsAs how mid new → EndsAs how old new
 ends-then Through old mid new a b = record { on = b.on; losses = b.losses ∙ a.losses; faults = b.faults ∙ a.faults }
 ends-then PowerLost old mid new a b = record { on = b.on; losses = b.losses ∙ ap counted a.losses; faults = b.faults ∙ a.faults }
 ends-then DiskFailed old mid new a b = record { on = b.on; losses = b.losses ∙ a.losses; faults = b.faults ∙ ap counted a.faults }

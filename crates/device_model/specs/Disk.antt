@@ -1,5 +1,5 @@
 -- The disk of a device: its area, which of its bytes may be lost, and what may stand after a loss.
-use Rattle.std.specs.Prelude.{◌≡◌, ◌⊎◌, ℕ, ◌+◌, ◌<◌, ◌≤◌, Bool, false, List, ◌++◌, length, slice_index, slice_index_or, take, drop, replicate, All, Option, Some, None, option_map, ⊤}
+use Rattle.std.specs.Prelude.{◌≡◌, ◌⊎◌, ℕ, ◌+◌, ◌<◌, ◌≤◌, Bool, true, false, List, ◌++◌, length, slice_index, slice_index_or, take, drop, replicate, All, Option, Some, None, option_map, ⊤}
 
 abbrev pub IsByte : ℕ → Type 0
 IsByte x = x < 256
@@ -32,6 +32,19 @@ synced disk = record disk { unsynced = unmarked disk.unsynced }
 -- these elements at this offset, over what is there
 abbrev pub overwritten : {A : Type 0} → ℕ → List A → List A → List A
 overwritten at xs all = take at all ++ xs ++ drop (at + length xs) all
+
+-- a range is unsynced too
+abbrev pub marked : ℕ → ℕ → List Bool → List Bool
+marked at count unsynced = overwritten at (replicate count true) unsynced
+
+-- a write that was done
+abbrev pub written : ℕ → List ℕ → Disk → Disk
+written at bytes disk = record { area = overwritten at bytes disk.area; unsynced = marked at (length bytes) disk.unsynced }
+
+-- a write in this range was not done: it holds any bytes, and is unsynced
+pub record IsSpoiled (at count : ℕ) (old new : Disk) : Type 0 where
+  pub area : IsRefilled (IsApart at count) old.area new.area
+  pub unsynced : new.unsynced ≡ marked at count old.unsynced
 
 -- power was lost: this range and all that was unsynced holds any bytes, and that is what stands now
 pub record IsTorn (at count : ℕ) (old new : Disk) : Type 0 where
@@ -80,6 +93,10 @@ MayHold (Some disk) area = IsRefilled (IsSynced disk.unsynced) disk.area area
 -- new may hold no area that old may not
 abbrev pub AddsNothing : Option Disk → Option Disk → Type 0
 AddsNothing old new = (area : List ℕ) → MayHold new area → MayHold old area
+
+-- what new may hold is what old may hold, with any bytes in this range
+abbrev pub ChangesOnly : ℕ → ℕ → Option Disk → Option Disk → Type 0
+ChangesOnly at count old new = (area : List ℕ) → MayHold new area → (before : List ℕ) × MayHold old before × IsRefilled (IsApart at count) before area
 
 -- a call that writes nothing: the disk may hold nothing new, and where nothing is unsynced it stays as it is
 pub record KeepsDisk (old new : Option Disk) : Type 0 where

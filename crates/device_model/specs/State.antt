@@ -1,11 +1,16 @@
 -- What a device means, and what each call leaves of that, by its answer.
-use Rattle.std.specs.Prelude.{◌≡◌, ℕ, ◌-◌, Bool, true, false, List, [], ◌∷◌, ◌++◌, length, take, drop, Option, option_map, IfSome, Result, Ok, Err, MatchBool, ⊤}
+use Rattle.std.specs.Prelude.{◌≡◌, ◌⊎◌, ℕ, ◌-◌, Bool, true, false, List, [], ◌∷◌, ◌++◌, length, take, drop, Option, option_map, IfSome, Result, Ok, Err, MatchBool, ⊤}
 use Rattle.upd_text.specs.Counts.{counted}
 use Rattle.device_model.specs.declared.calls.Down.{Down}
 use Rattle.device_model.specs.declared.calls.Down.TheVariants.{Off, Fault}
 use Rattle.device_model.specs.declared.calls.Event.{Event}
-use Rattle.device_model.specs.declared.calls.Event.TheVariants.{Loss}
-use Rattle.device_model.specs.Disk.{Disk, WhereTold, IsTorn, synced}
+use Rattle.device_model.specs.declared.calls.Event.TheVariants.{Start, End, Loss}
+use Rattle.device_model.specs.declared.calls.Call.{Call}
+use Rattle.device_model.specs.declared.calls.Call.TheVariants as call
+use Rattle.device_model.specs.declared.calls.Answer.TheVariants as answer
+use Rattle.device_model.specs.declared.calls.Ran.{Ran}
+use Rattle.device_model.specs.declared.calls.Ran.TheVariants as ran
+use Rattle.device_model.specs.Disk.{Disk, WhereTold, IsSpoiled, IsTorn, written, synced}
 
 -- what a device means
 pub record State : Type 0 where
@@ -16,8 +21,15 @@ pub record State : Type 0 where
   pub faults : ℕ
   pub losses : ℕ
 
+abbrev pub after_write : ℕ → List ℕ → State → State
+after_write at bytes old = record old { disk = option_map (written at bytes) old.disk }
+
 abbrev pub after_sync : State → State
 after_sync old = record old { disk = option_map synced old.disk }
+
+-- these events stand at the journal's end
+abbrev pub with_events : List Event → State → State
+with_events events old = record old { journal = old.journal ++ events; room = old.room - length events }
 
 -- power was lost in a call that may have written this range
 pub record LosesPower (at count : ℕ) (old new : State) : Type 0 where
@@ -27,6 +39,11 @@ pub record LosesPower (at count : ℕ) (old new : State) : Type 0 where
 -- a call failed and did nothing: what was unsynced stays so
 abbrev pub Fails : State → State → Type 0
 Fails old new = new ≡ record old { faults = counted old.faults }
+
+-- a write in this range failed
+pub record FailsToWrite (at count : ℕ) (old new : State) : Type 0 where
+  pub rest : new ≡ record old { disk = new.disk; faults = counted old.faults }
+  pub disk : WhereTold (IsSpoiled at count) old.disk new.disk
 
 -- a device that is off stays as it is; one that is on lost its power in this way
 abbrev pub GoesOff : Type 0 → State → State → Type 0
@@ -38,6 +55,12 @@ EndsRead old (Ok x) new = (old.on ≡ true) × (new ≡ old)
 EndsRead old (Err Fault) new = (old.on ≡ true) × Fails old new
 EndsRead old (Err Off) new = GoesOff (LosesPower 0 0 old new) old new
 
+-- what a write leaves
+abbrev pub EndsWrite : {T : Type 0} → ℕ → List ℕ → State → Result T Down → State → Type 0
+EndsWrite at bytes old (Ok x) new = (old.on ≡ true) × (new ≡ after_write at bytes old)
+EndsWrite at bytes old (Err Fault) new = (old.on ≡ true) × FailsToWrite at (length bytes) old new
+EndsWrite at bytes old (Err Off) new = GoesOff (LosesPower at (length bytes) old new) old new
+
 -- what a sync leaves
 abbrev pub EndsSync : {T : Type 0} → State → Result T Down → State → Type 0
 EndsSync old (Ok x) new = (old.on ≡ true) × (new ≡ after_sync old)
@@ -48,3 +71,20 @@ EndsSync old (Err Off) new = GoesOff (LosesPower 0 0 old new) old new
 abbrev pub Reads : {T : Type 0} → Option Disk → ℕ → List ℕ → Result T Down → Type 0
 Reads disk at into (Ok x) = IfSome disk (λ d. into ≡ take (length into) (drop at d.area))
 Reads disk at into (Err e) = ⊤
+
+-- a call that isn't a question
+abbrev pub IsPlain : Call → Type 0
+IsPlain (call.Module payload kind state) = ⊤
+IsPlain (call.Ask payload kind query) = ⊥
+IsPlain (call.Script name) = ⊤
+IsPlain call.SystemReboot = ⊤
+
+-- power was lost before a child's start, or after it
+abbrev pub LosesChild : Call → State → State → Type 0
+LosesChild c old new = LosesPower 0 0 old new ⊎ LosesPower 0 0 (with_events (Start c ∷ []) old) new
+
+-- what a child leaves, by its answer
+abbrev pub EndsChild : Call → State → Ran → State → Type 0
+EndsChild c old (ran.Exit code) new = (old.on ≡ true) × (new ≡ with_events (Start c ∷ End (answer.Exit code) ∷ []) old)
+EndsChild c old ran.NotStarted new = (old.on ≡ true) × (new ≡ with_events (Start c ∷ End answer.NotStarted ∷ []) old)
+EndsChild c old ran.Off new = GoesOff (LosesChild c old new) old new

@@ -37,7 +37,9 @@ impl AreaBytes {
     /// Writes bytes from an offset on.
     pub fn set(&mut self, at: u32, bytes: &[u8])
         requires { at + length bytes.now ≤ AREA }
-        ensures { self.new ≡ overwritten at bytes.now self.old }
+        ensures set { self.new ≡ overwritten at bytes.now self.old }
+        ensures size { length self.new ≡ AREA }
+        ensures small { All IsByte self.new }
     {
         let at = at as usize;
         self.bytes[at..at + bytes.len()].copy_from_slice(bytes);

@@ -114,3 +114,12 @@ pub enum Down {
     /// The disk failed.
     Fault,
 }
+
+/// How a child ended that was no question.
+#[derive(Clone, Copy, Debug, PartialEq, Eq)]
+pub enum Ran {
+    Exit(u8),
+    NotStarted,
+    /// The device is off.
+    Off,
+}

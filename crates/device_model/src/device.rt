@@ -2,9 +2,9 @@
 
 ghost use Rattle.std.specs.Prelude.{◌≡◌, ◌+◌, ◌≤◌, length};
 ghost use Rattle.device_model.specs.Disk.{KeepsDisk, IsWhole};
-ghost use Rattle.device_model.specs.State.{State, EndsRead, EndsSync, Reads};
+ghost use Rattle.device_model.specs.State.{State, EndsRead, EndsWrite, EndsSync, EndsChild, IsPlain, Reads};
 
-use crate::calls::Down;
+use crate::calls::{Call, Down, Ran};
 
 /// How many bytes the area of a device has.
 pub const AREA: u32 = 266_240;
@@ -33,10 +33,23 @@ pub trait Device {
         ensures bytes { Reads (means self.old).disk at into.new result }
         ensures leaves { KeepsDisk (means self.old).disk (means self.new).disk };
 
+    /// Writes bytes into the area from an offset on. Until a sync, a loss may leave any bytes there.
+    fn disk_write(&mut self, at: u32, bytes: &[u8]) -> Result<(), Down>
+        requires room { 1 ≤ (means self.old).room }
+        requires range { at + length bytes.now ≤ AREA }
+        ensures ends { EndsWrite at bytes.now (means self.old) result (means self.new) };
+
     /// After it, nothing is unsynced.
     fn disk_sync(&mut self) -> Result<(), Down>
         requires room { 1 ≤ (means self.old).room }
         ensures ends { EndsSync (means self.old) result (means self.new) }
+        ensures leaves { KeepsDisk (means self.old).disk (means self.new).disk };
+
+    /// Starts a child that is no question, and waits for its end.
+    fn run_child(&mut self, call: &Call) -> Ran
+        requires room { 3 ≤ (means self.old).room }
+        requires plain { IsPlain call.now }
+        ensures ends { EndsChild call.now (means self.old) result (means self.new) }
         ensures leaves { KeepsDisk (means self.old).disk (means self.new).disk };
 
     /// A disk that is told has a whole area.

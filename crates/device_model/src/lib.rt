@@ -8,10 +8,10 @@ mod events;
 mod plain;
 
 pub use area::AreaBytes;
-pub use calls::{Answer, Call, Down, Event, ModState, Query};
+pub use calls::{Answer, Call, Down, Event, ModState, Query, Ran};
 pub use device::{AREA, Device, ROOM, STATE_EVENTS};
 pub use events::EventList;
-pub use plain::PlainDevice;
+pub use plain::{ExitList, PlainDevice};
 
 #[cfg(test)]
 mod tests;

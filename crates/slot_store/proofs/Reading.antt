@@ -1,17 +1,15 @@
 -- What is read of the picked slot, and what then may stand.
-use Rattle.std.proofs.Common.{◌≡◌, ℕ, ◌+◌, false, List, [], ◌∷◌, length, take, drop, replicate, refl, sym, ap, subst, ◌∙◌}
+use Rattle.std.proofs.Common.{◌≡◌, ℕ, ◌%◌, false, List, [], ◌∷◌, length, take, drop, replicate, refl, sym, ap, subst, ◌∙◌}
 use Rattle.std.proofs.lemmas.List.{length-replicate}
-use Rattle.std.specs.Prelude.{Bool, All, Option, Some, None, option_map, IfSome, Result, Ok, Err, get_or, ⊤}
-use Rattle.device_model.specs.declared.calls.Down.{Down}
-use Rattle.device_model.specs.declared.calls.Down.TheVariants.{Off, Fault}
-use Rattle.device_model.specs.Disk.{Disk, IsByte, IsRefilled, IsSynced as IsSyncedByte, MayHold, IsTold, IsSettled, IsWhole, area_of, synced, unmarked}
-use Rattle.device_model.specs.State.{State, EndsRead, Reads, after_sync}
+use Rattle.std.specs.Prelude.{Bool, Option, Some, None, option_map, IfSome, Result, Ok, Err, get_or}
+use Rattle.device_model.specs.Disk.{Disk, IsRefilled, IsSynced as IsSyncedByte, IsTold, IsSettled, IsWhole, area_of, synced, unmarked}
+use Rattle.device_model.specs.State.{State, after_sync}
 use Rattle.device_model.specs.How.{SameArea}
 use Rattle.device_model.proofs.Refilled.{refilled_self, refilled_none, unmarked_synced}
 use Rattle.record_codec.specs.declared.entry.Db.{Db}
 use Rattle.record_codec.specs.Reading.{database}
-use Rattle.slot_store.specs.Slots.{slot_start, slot_size, picked_slot, stood, Stands, May, IsAt}
-use Rattle.slot_store.specs.Mount.{Kept, IsPicked, IsSynced, IsMounted, IsBad, ReadEnds}
+use Rattle.slot_store.specs.Slots.{slot_start, slot_size, picked_slot, stood, May, IsAt, IsOf}
+use Rattle.slot_store.specs.Mount.{Kept, IsPicked, IsSynced, IsRead, IsMounted}
 
 slot-size : slot_size ≡ 131072
 unfolding slot_size
@@ -34,8 +32,13 @@ is-picked None sel into at first one start size read = tt
 is-picked (Some d) sel into at first one start size read =
     read ∙ ap (λ (n : ℕ). take n (drop at d.area)) (size ∙ sym slot-size) ∙ ap (λ (n : ℕ). take slot_size (drop n d.area)) (start ∙ ap slot_start (sym (first_byte d.area sel one first)))
 
+pub is-of : (disk : Option Disk) (sel : List ℕ) (picked : ℕ) →
+    IfSome disk (λ d. sel ≡ take (length sel) (drop 0 d.area)) → length sel ≡ 1 → picked ≡ get_or sel 0 0 % 2 → IsSettled disk → IsOf picked disk
+is-of None sel picked first one parity settled = tt
+is-of (Some d) sel picked first one parity settled = (settled, ap (λ (n : ℕ). n % 2) (first_byte d.area sel one first) ∙ sym parity)
+
 -- an area that a disk without unsynced bytes may hold is its own
-settled-area : (d : Disk) → d.unsynced ≡ unmarked d.unsynced → (a : List ℕ) → IsRefilled (IsSyncedByte d.unsynced) d.area a → a ≡ d.area
+pub settled-area : (d : Disk) → d.unsynced ≡ unmarked d.unsynced → (a : List ℕ) → IsRefilled (IsSyncedByte d.unsynced) d.area a → a ≡ d.area
 settled-area d s a h = refilled_none (IsSyncedByte d.unsynced) (λ i. subst (λ (u : List Bool). IsSyncedByte u i) (sym s) (unmarked_synced d.unsynced i)) d.area a h
 
 answers-one : (a b : Db) → (let x : Result Db ℕ = Ok a in let y : Result Db ℕ = Ok b in x ≡ y) → a ≡ b
@@ -69,35 +72,48 @@ read-before old new slot r same picked read = subst (λ (x : Option (List ℕ)).
     now None p = tt
     now (Some d) p = ap database (sym p) ∙ read
 
+pub mounted : (store : Kept) (old new : State) (picked : ℕ) (db : Db) → store.picked ≡ picked → store.db ≡ db → IsSynced old new
+    → IfSome (area_of old.disk) (λ a. stood a ≡ Ok db) → IsAt db new.disk → IsOf picked new.disk → IsMounted store old new
+mounted store old new picked db is-picked is-db synced stands at of = record {
+  synced = synced;
+  stands = subst (λ (d : Db). IfSome (area_of old.disk) (λ a. stood a ≡ Ok d)) (sym is-db) stands;
+  is_at = subst (λ (d : Db). IsAt d new.disk) (sym is-db) at;
+  is_of = subst (λ (p : ℕ). IsOf p new.disk) (sym is-picked) of;
+}
+
 -- ---- a sync and two reads
 
 area-synced : (disk : Option Disk) → area_of (option_map synced disk) ≡ area_of disk
 area-synced None = refl
 area-synced (Some d) = refl
 
-settled-synced : (disk : Option Disk) → IsSettled (option_map synced disk)
+pub settled-synced : (disk : Option Disk) → IsSettled (option_map synced disk)
 settled-synced None = tt
 settled-synced (Some d) = ap (λ (n : ℕ). replicate n false) (sym (length-replicate (length d.unsynced) false))
 
 -- the first bytes of the area, read after a sync
 module _ (old once again new : State) (sel into : List ℕ) (at : ℕ)
     (done : once ≡ after_sync old) (same : again ≡ once) (read : IfSome once.disk (λ d. sel ≡ take (length sel) (drop 0 d.area)))
-    (one : length sel ≡ 1) (start : at ≡ slot_start (get_or sel 0 0)) (size : length into ≡ 131072) where
+    (one : length sel ≡ 1) (picked : ℕ) (parity : picked ≡ get_or sel 0 0 % 2) (start : at ≡ slot_start (get_or sel 0 0)) (size : length into ≡ 131072) where
   disk-again : again.disk ≡ option_map synced old.disk
   disk-again = ap (λ (s : State). s.disk) (same ∙ done)
 
   area-again : SameArea old again
   area-again = ap area_of disk-again ∙ area-synced old.disk
 
-  pub read-ends : {T : Type 0} (r : Result T Down) → EndsRead again r new → Reads again.disk at into r → ReadEnds old r into new
-  read-ends (Ok x) ends bytes =
-      let same_disk : new.disk ≡ again.disk = ap (λ (s : State). s.disk) ends.1 in (
-        record {
+  first-again : IfSome again.disk (λ d. sel ≡ take (length sel) (drop 0 d.area))
+  first-again = subst (λ (d : Option Disk). IfSome d (λ d. sel ≡ take (length sel) (drop 0 d.area))) (sym (ap (λ (s : State). s.disk) same)) read
+
+  pub read-is : new ≡ again → IfSome again.disk (λ d. into ≡ take (length into) (drop at d.area)) → IsRead picked into old new
+  read-is ends bytes =
+      let same_disk : new.disk ≡ again.disk = ap (λ (s : State). s.disk) ends in
+      let settled : IsSettled again.disk = subst IsSettled (sym disk-again) (settled-synced old.disk) in
+      record {
+        synced = record {
           area = ap area_of same_disk ∙ area-again;
-          settled = subst IsSettled (sym (same_disk ∙ disk-again)) (settled-synced old.disk);
-          room = ap (λ (s : State). s.room) (ends.1 ∙ same ∙ done);
-        },
-        subst (λ (d : Option Disk). IsPicked d into) (sym same_disk) (is-picked again.disk sel into at (subst (λ (d : Option Disk). IfSome d (λ d. sel ≡ take (length sel) (drop 0 d.area))) (sym (ap (λ (s : State). s.disk) same)) read) one start size bytes),
-      )
-  read-ends (Err Off) ends bytes = tt
-  read-ends (Err Fault) ends bytes = ap area_of (ap (λ (s : State). s.disk) ends.1) ∙ area-again
+          settled = subst IsSettled (sym same_disk) settled;
+          room = ap (λ (s : State). s.room) (ends ∙ same ∙ done);
+        };
+        bytes = subst (λ (d : Option Disk). IsPicked d into) (sym same_disk) (is-picked again.disk sel into at first-again one start size bytes);
+        is_of = subst (λ (d : Option Disk). IsOf picked d) (sym same_disk) (is-of again.disk sel picked first-again one parity settled);
+      }

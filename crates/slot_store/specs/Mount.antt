@@ -8,10 +8,11 @@ use Rattle.device_model.specs.State.{State}
 use Rattle.device_model.specs.How.{How, Through, PowerLost, DiskFailed, SameArea}
 use Rattle.slot_store.specs.declared.store.MountFault.{MountFault}
 use Rattle.slot_store.specs.declared.store.MountFault.TheVariants.{Off, DiskFault, BadStore, NoMemory}
-use Rattle.slot_store.specs.Slots.{stood, Stands, May, IsAt, picked_slot}
+use Rattle.slot_store.specs.Slots.{stood, Stands, May, IsAt, IsOf, picked_slot}
 
--- a store: what it holds
+-- a store: which slot is picked, and what it holds
 pub record Kept : Type 0 where
+  pub picked : ℕ
   pub db : Db
 
 -- these are the bytes of the picked slot, where the disk is told
@@ -29,6 +30,7 @@ pub record IsMounted (store : Kept) (old new : State) : Type 0 where
   pub synced : IsSynced old new
   pub stands : IfSome (area_of old.disk) (λ area. Stands area store.db)
   pub is_at : IsAt store.db new.disk
+  pub is_of : IsOf store.picked new.disk
 
 -- the picked slot is no record, so that nothing may stand
 pub record IsBad (offset : ℕ) (old new : State) : Type 0 where
@@ -44,9 +46,15 @@ mount_how (Err DiskFault) = DiskFailed
 mount_how (Err (BadStore offset)) = Through
 mount_how (Err NoMemory) = Through
 
+-- the slot that is picked, its bytes, and nothing is unsynced
+pub record IsRead (picked : ℕ) (slot : List ℕ) (old new : State) : Type 0 where
+  pub synced : IsSynced old new
+  pub bytes : IsPicked new.disk slot
+  pub is_of : IsOf picked new.disk
+
 -- what a read of the picked slot leaves and finds, by its answer
-abbrev pub ReadEnds : {T : Type 0} → State → Result T Down → List ℕ → State → Type 0
-ReadEnds old (Ok x) slot new = IsSynced old new × IsPicked new.disk slot
+abbrev pub ReadEnds : State → Result ℕ Down → List ℕ → State → Type 0
+ReadEnds old (Ok picked) slot new = IsRead picked slot old new
 ReadEnds old (Err down.Off) slot new = ⊤
 ReadEnds old (Err down.Fault) slot new = SameArea old new
 

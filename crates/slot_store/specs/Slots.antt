@@ -1,8 +1,8 @@
 -- The two slots of an area, and which database it stands for.
-use Rattle.std.specs.Prelude.{◌≡◌, ℕ, ◌%◌, ◌==◌, if◌then◌else◌, List, slice_index, take, drop, Option, Result, Ok}
+use Rattle.std.specs.Prelude.{◌≡◌, ◌⊎◌, ℕ, ◌%◌, ◌==◌, if◌then◌else◌, List, slice_index, take, drop, Option, Some, None, Result, Ok, ⊤}
 use Rattle.record_codec.specs.declared.entry.Db.{Db}
 use Rattle.record_codec.specs.Reading.{database}
-use Rattle.device_model.specs.Disk.{Disk, MayHold, IsTold}
+use Rattle.device_model.specs.Disk.{Disk, MayHold, IsTold, unmarked}
 
 -- where the slot begins that a selector picks: slot 0 for an even one, slot 1 for an odd one
 unfoldable pub slot_start : ℕ → ℕ
@@ -38,3 +38,12 @@ Sound disk = (area : List ℕ) → MayHold disk area → (db : Db) × Stands are
 pub record IsAt (db : Db) (disk : Option Disk) : Type 0 where
   pub stands : IsTold disk → May disk db
   pub alone : IsTold disk → (d : Db) → May disk d → d ≡ db
+
+-- nothing is unsynced, and byte 0 picks this slot, where the disk is told
+abbrev pub IsOf : ℕ → Option Disk → Type 0
+IsOf picked None = ⊤
+IsOf picked (Some disk) = (disk.unsynced ≡ unmarked disk.unsynced) × (slice_index disk.area 0 % 2 ≡ picked)
+
+-- what new may stand for is what old may stand for, or this
+abbrev pub OldOrNew : Db → Option Disk → Option Disk → Type 0
+OldOrNew db old new = (d : Db) → May new d → May old d ⊎ (d ≡ db)

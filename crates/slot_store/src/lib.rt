@@ -2,6 +2,7 @@
 #![tactic(auto)]
 
 mod store;
+mod writing;
 
 pub use store::{MountFault, Store};
 

@@ -2,7 +2,7 @@
 
 ghost use Rattle.std.specs.Prelude.{◌≡◌, [], true, IfOk};
 
-use device_model::{Device, Down, Event, EventList, ROOM};
+use device_model::{Answer, Call, Device, Down, Event, EventList, ROOM, Ran};
 use std::alloc::Global;
 use upd_text::NoMemory;
 
@@ -69,6 +69,24 @@ impl Device for FailingDevice {
         Err(Down::Off)
     }
 
+    fn disk_write(&mut self, _at: u32, _bytes: &[u8]) -> Result<(), Down> {
+        if !self.on {
+            return Err(Down::Off);
+        }
+        if self.left > 0 {
+            self.left -= 1;
+            return Ok(());
+        }
+        if !self.loses {
+            self.faults = self.faults.saturating_add(1);
+            return Err(Down::Fault);
+        }
+        self.on = false;
+        self.losses = self.losses.saturating_add(1);
+        self.journal.push(Event::Loss).unwrap();
+        Err(Down::Off)
+    }
+
     fn disk_sync(&mut self) -> Result<(), Down> {
         if !self.on {
             return Err(Down::Off);
@@ -85,5 +103,21 @@ impl Device for FailingDevice {
         self.losses = self.losses.saturating_add(1);
         self.journal.push(Event::Loss).unwrap();
         Err(Down::Off)
+    }
+
+    fn run_child(&mut self, call: &Call) -> Ran {
+        if !self.on {
+            return Ran::Off;
+        }
+        if self.left == 0 && self.loses {
+            self.on = false;
+            self.losses = self.losses.saturating_add(1);
+            self.journal.push(Event::Loss).unwrap();
+            return Ran::Off;
+        }
+        self.left = self.left.saturating_sub(1);
+        self.journal.push(Event::Start(call.twin())).unwrap();
+        self.journal.push(Event::End(Answer::Exit(0))).unwrap();
+        Ran::Exit(0)
     }
 }

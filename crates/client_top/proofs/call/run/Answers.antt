@@ -11,7 +11,7 @@ returns-in-Ok g c =
     let disk = (g.D.Device.means c.act.new.device).disk in
     record {
       obeyed = obeyed-whole (shown c.db.result.now) (did-asked c.read_command.ensures c.in-Show.ensures.did)
-          (text-shown disk c.db.result.now (subst (λ (d : Db). IsAt d disk) (sym c.db.ensures) c.in-Show.ensures.shows)) c.in-Ok.ensures;
+          (text-shown disk c.db.result.now (subst (λ (d : Db). IsAt d disk) (sym c.db.ensures.value) c.in-Show.ensures.shows)) c.in-Ok.ensures;
     }
 
 pub returns-in-Show : goal.returns-in-Show
@@ -19,7 +19,7 @@ returns-in-Show g c =
     let disk = (g.D.Device.means c.act.new.device).disk in
     record {
       obeyed = obeyed-cut (shown c.db.result.now) (did-asked c.read_command.ensures c.in-Show.ensures.did)
-          (text-shown disk c.db.result.now (subst (λ (d : Db). IsAt d disk) (sym c.db.ensures) c.in-Show.ensures.shows)) c.in-Err.ensures;
+          (text-shown disk c.db.result.now (subst (λ (d : Db). IsAt d disk) (sym c.db.ensures.value) c.in-Show.ensures.shows)) c.in-Err.ensures;
     }
 
 pub returns-in-Ok-say : goal.returns-in-Ok-say
