@@ -1,5 +1,5 @@
 #!/usr/bin/env python3
-"""Times `show-provides` over the largest record, beside /bin/true in the same run. Run it by hand.
+"""Times `show-provides` over the largest record and over one of 75 bytes, beside /bin/true in the same run. Run it by hand.
 
 usage: bench/show_provides.py [PROGRAM] [RUNS]
 It prints the median time of a run in milliseconds, and the peak of memory where GNU time is installed.
@@ -37,6 +37,20 @@ def largest_record():
     return record, len(pairs)
 
 
+SMALL = (b"MUP1\0\2\0\0\5\0\0\0\0\0\0\x4b" + b"\0\0" + b"\0\2" + pair(b"app.version", b"2")
+         + pair(b"artifact_name", b"release-2") + b"\x0bsingle-file\0")
+
+
+def make_data(folder, record):
+    """A data folder whose store has this record in slot 0."""
+    data = os.path.join(folder, "mender-data")
+    os.mkdir(data)
+    with open(os.path.join(data, "device_type"), "w") as device_type:
+        device_type.write("device_type=beaglebone\n")
+    with open(os.path.join(data, "store"), "wb") as store:
+        store.write(bytes(SLOT_0) + record + bytes(AREA - SLOT_0 - len(record)))
+
+
 def median_time(count, arguments, folder):
     """The median time of so many runs, in ms."""
     times = []
@@ -62,14 +76,14 @@ def main():
     program = os.path.abspath(sys.argv[1] if len(sys.argv) > 1 else default)
     count = int(sys.argv[2]) if len(sys.argv) > 2 else 200
     record, pairs = largest_record()
+    print(f"{count} runs each, a record of {LIMIT} bytes with {pairs} pairs and one of {len(SMALL)} bytes with 2")
+    for name, stored in (("largest", record), ("75 bytes", SMALL)):
+        with tempfile.TemporaryDirectory() as folder:
+            make_data(folder, stored)
+            shown = [program, "show-provides"]
+            print(f"{name:10} median {median_time(count, shown, folder):8.3f} ms   peak {peak_memory(shown, folder)}")
     with tempfile.TemporaryDirectory() as folder:
-        os.mkdir(os.path.join(folder, "mender-data"))
-        with open(os.path.join(folder, "mender-data", "store"), "wb") as store:
-            store.write(bytes(SLOT_0) + record + bytes(AREA - SLOT_0 - LIMIT))
-        print(f"{count} runs each, a record of {LIMIT} bytes with {pairs} pairs")
-        for name, arguments in (("show-provides", [program, "show-provides"]), ("/bin/true", ["/bin/true"])):
-            median = median_time(count, arguments, folder)
-            print(f"{name:14} median {median:8.3f} ms   peak {peak_memory(arguments, folder)}")
+        print(f"/bin/true  median {median_time(count, ['/bin/true'], folder):8.3f} ms   peak {peak_memory(['/bin/true'], folder)}")
 
 
 if __name__ == "__main__":

@@ -5,7 +5,7 @@ use Rattle.device_model.specs.State.{State}
 
 -- a device that is on, with these events, room for so many more, and so many failed calls
 abbrev pub host_state : List Event → ℕ → ℕ → State
-host_state journal room failed = record { on = true; disk = None; journal = journal; room = room; faults = failed; losses = 0 }
+host_state journal room failed = record { on = true; disk = None; work = None; journal = journal; room = room; faults = failed; losses = 0 }
 
 -- a device at the begin of a boot: it is on, its journal is empty, and it takes all events of one command
 pub record IsNew (state : State) : Type 0 where

@@ -7,7 +7,11 @@ ghost use Rattle.client_cli.specs.Host.{host_state};
 use crate::children;
 use crate::fault::HostFault;
 use crate::files::{joined, open_store, read_at, write_at};
-use device_model::{Answer, Call, Device, Down, Event, EventList, ModState, ROOM, Ran};
+use crate::site::site_of;
+use device_model::{
+    Answer, Asked, Call, Device, Down, Event, EventList, ModState, Off, Part, Query, ROOM, Ran,
+};
+use script_names::Site;
 use std::alloc::{AllocError, Global};
 use std::fs::{self, File, OpenFile};
 use std::io::{self, ErrorKind};
@@ -42,6 +46,10 @@ fn settle(failed: &mut u64, done: io::Result<()>) -> Result<(), Down>
     }
 }
 
+fn not_built() -> io::Result<()> {
+    Err(io::Error::from(ErrorKind::Unsupported))
+}
+
 /// Notes an event, for which there is room.
 fn note(journal: &mut EventList, event: Event)
     requires { 0 < journal.old.room }
@@ -74,9 +82,10 @@ fn word_of(state: ModState) -> &'static str {
 }
 
 impl<R: Files<File = File> + Processes + Drop> HostDevice<R> {
-    /// Opens the device of a data folder. The store is made where it isn't there, and grown where it is short.
-    pub fn attach(rt: R, alloc: Global, folder: &str) -> Result<HostDevice<R>, HostFault>
-        ensures { IfOk result (λ d. host_state d.journal.events d.journal.room d.failed ≡ host_state [] ROOM 0) }
+    /// Opens the device of a data folder, and reads its type. The store is made where it isn't there, and grown where it is
+    /// short.
+    pub fn attach(rt: R, alloc: Global, folder: &str) -> Result<(HostDevice<R>, Site), HostFault>
+        ensures { IfOk result (λ r. host_state r.0.journal.events r.0.journal.room r.0.failed ≡ host_state [] ROOM 0) }
     {
         match rt.metadata(folder) {
             Ok(kind) if kind.is_dir() => {}
@@ -87,20 +96,22 @@ impl<R: Files<File = File> + Processes + Drop> HostDevice<R> {
             Ok(path) => String::from_str(alloc, path.as_str()).map_err(refused)?,
             Err(error) => return Err(HostFault::of(&error, HostFault::NoFolder)),
         };
+        let site = site_of(&rt, alloc, folder.as_str())?;
         let path = joined(alloc, folder.as_str(), "store").map_err(refused)?;
         let store = match open_store(&rt, folder.as_str(), path.as_str()) {
             Ok(store) => store,
             Err(error) => return Err(HostFault::of(&error, HostFault::NoStore)),
         };
         let journal = EventList::with_room(alloc, ROOM).map_err(starved)?;
-        Ok(HostDevice {
+        let device = HostDevice {
             rt,
             alloc,
             folder,
             store,
             journal,
             failed: 0,
-        })
+        };
+        Ok((device, site))
     }
 
     /// Calls a module with the state's name and the absolute path of its work folder, in which it runs.
@@ -134,6 +145,12 @@ impl<R: Files<File = File> + Processes + Drop> HostDevice<R> {
 }
 
 impl<R: Files<File = File> + Processes + Drop> Device for HostDevice<R> {
+    ghost use Rattle.std.specs.Prelude.{None};
+
+    type Plan = ();
+
+    ghost plan = { λ _. None };
+
     ghost means = { λ d. host_state d.journal.events d.journal.room d.failed };
 
     ghost whole = { λ _. tt };
@@ -157,6 +174,19 @@ impl<R: Files<File = File> + Processes + Drop> Device for HostDevice<R> {
         settle(&mut self.failed, done)
     }
 
+    // The work folder of the host is not built so far: its calls fail.
+    fn work_clear(&mut self) -> Result<(), Down> {
+        settle(&mut self.failed, not_built())
+    }
+
+    fn work_append(&mut self, _part: Part, _path: &Name, _bytes: &[u8]) -> Result<(), Down> {
+        settle(&mut self.failed, not_built())
+    }
+
+    fn work_sync(&mut self) -> Result<(), Down> {
+        settle(&mut self.failed, not_built())
+    }
+
     fn run_child(&mut self, call: &Call) -> Ran {
         note(&mut self.journal, Event::Start(call.twin()));
         match self.started(call) {
@@ -169,5 +199,23 @@ impl<R: Files<File = File> + Processes + Drop> Device for HostDevice<R> {
                 Ran::NotStarted
             }
         }
+    }
+
+    // No module is asked so far.
+    fn ask_child(&mut self, payload: u8, kind: &Name, query: Query) -> Asked {
+        let call = Call::Ask {
+            payload,
+            kind: kind.twin(),
+            query,
+        };
+        note(&mut self.journal, Event::Start(call));
+        note(&mut self.journal, Event::End(Answer::NotStarted));
+        Asked::NotStarted
+    }
+
+    // No command pauses so far.
+    fn pause(&mut self, seconds: u32) -> Result<(), Off> {
+        note(&mut self.journal, Event::Pause(seconds));
+        Ok(())
     }
 }

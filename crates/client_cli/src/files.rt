@@ -1,4 +1,6 @@
-//! The store, as a file.
+//! Files and folders by their paths.
+
+ghost use Rattle.std.specs.Prelude.{◌≤◌, length, IfOk};
 
 use device_model::AREA;
 use std::alloc::{AllocError, Global};
@@ -60,4 +62,47 @@ pub fn read_at<F: Read + Seek>(file: &mut F, at: u64, into: &mut [u8]) -> io::Re
 pub fn write_at<F: Write + Seek>(file: &mut F, at: u64, bytes: &[u8]) -> io::Result<()> {
     file.seek(SeekFrom::Start(at))?;
     file.write_all(bytes)
+}
+
+/// Fills as much of the buffer as the file has bytes, and says how much.
+pub fn read_up_to<F: Read>(file: &mut F, into: &mut [u8]) -> io::Result<usize>
+    ensures { IfOk result (λ n. n ≤ length into.new) }
+{
+    let mut filled = 0;
+    for _ in 0..u64::MAX {
+        if filled >= into.len() {
+            break;
+        }
+        match file.read(&mut into[filled..]) {
+            Ok(0) => break,
+            Ok(count) => filled += count,
+            Err(error) if error.kind() == ErrorKind::Interrupted => {}
+            Err(error) => return Err(error),
+        }
+    }
+    Ok(filled)
+}
+
+/// The first bytes of a file. What is no file is not opened, so that nothing waits for a writer.
+pub fn read_start<R: Files>(rt: &R, path: &str, into: &mut [u8]) -> io::Result<usize>
+    ensures { IfOk result (λ n. n ≤ length into.new) }
+{
+    if !rt.metadata(path)?.is_file() {
+        return Err(io::Error::from(ErrorKind::InvalidInput));
+    }
+    let mut file = fs::open(rt, path)?;
+    read_up_to(&mut file, into)
+}
+
+/// The names in a folder, without `.` and `..`, in no order. They are bytes and need not be text.
+pub fn names_in<R: Files>(rt: &R, alloc: Global, folder: &str) -> io::Result<Vec<Vec<u8>>> {
+    let mut all = Vec::new(alloc);
+    rt.open_dir(folder)?.read_to_end(&mut all)?;
+    let mut names = Vec::new(alloc);
+    for name in all.as_slice().split(|b| *b == 0) {
+        if !name.is_empty() && name != b".".as_slice() && name != b"..".as_slice() {
+            names.push(Vec::from_slice(alloc, name)?)?;
+        }
+    }
+    Ok(names)
 }

@@ -2,7 +2,7 @@
 #![tactic(auto)]
 
 ghost use Rattle.std.specs.Prelude.{IfOk};
-ghost use Rattle.device_model.specs.Plain.{state_of};
+ghost use Rattle.device_mem.specs.Mem.{state_of};
 ghost use Rattle.client_cli.specs.Host.{IsNew};
 
 mod children;
@@ -10,19 +10,24 @@ mod device;
 mod fault;
 mod files;
 mod sink;
+mod site;
+mod source;
 mod words;
 
 use crate::device::HostDevice;
 use crate::fault::HostFault;
 use crate::sink::HostSink;
+use crate::source::HostSource;
 use crate::words::words_of;
-use client_top::{Status, read_command, run};
-use device_model::{AreaBytes, ExitList, PlainDevice, ROOM};
+use client_top::{Command, Status, read_command, run};
+use device_mem::{AnswerList, AreaBytes, LossList, MemDevice, Script};
+use device_model::{Answer, ROOM};
+use script_names::{ScriptList, Site};
 use std::alloc::Global;
 use std::fs::{File, OpenOptions};
 use std::process::{ExitCode, Processes};
 use std::rt::Files;
-use upd_text::NoMemory;
+use upd_text::{CallList, Name, NoMemory};
 
 /// The data folder, in the folder where the program is started.
 const FOLDER: &str = "mender-data";
@@ -42,10 +47,53 @@ fn cannot_start<R: Eprint>(rt: &R, fault: HostFault) -> ExitCode {
 }
 
 /// Words that are no form need no device of the host: they are told over one in memory.
-fn plain_device(alloc: Global) -> Result<PlainDevice, NoMemory>
+fn plain_device(alloc: Global) -> Result<MemDevice, NoMemory>
     ensures { IfOk result (λ d. IsNew (state_of d)) }
 {
-    PlainDevice::new(alloc, AreaBytes::zeros(alloc)?, ROOM, ExitList::new(alloc))
+    let script = Script {
+        answers: AnswerList::new(alloc),
+        supports: Answer::Exit(0),
+        needs: Answer::Exit(0),
+        losses: LossList::new(alloc),
+        cuts: CallList::new(alloc),
+        faults: CallList::new(alloc),
+        meddle: false,
+    };
+    MemDevice::new(alloc, AreaBytes::zeros(alloc)?, ROOM, script)
+}
+
+/// Tells the words over a device in memory, a device without a type, and no tree.
+fn tell<R: Files + Print + Drop>(
+    rt: R,
+    alloc: Global,
+    words: &[String],
+) -> Result<Status, HostFault> {
+    let Ok(device_type) = Name::read(b"none") else {
+        return Err(HostFault::NoMemory);
+    };
+    let site = Site {
+        device_type,
+        scripts: ScriptList::new(alloc),
+    };
+    let Ok(mut device) = plain_device(alloc) else {
+        return Err(HostFault::NoMemory);
+    };
+    let mut out = HostSink::new(&rt);
+    let mut source = HostSource::none(&rt, alloc);
+    Ok(run(alloc, words, &site, &mut source, &mut out, &mut device))
+}
+
+/// The tree that the words name, where they name one.
+fn source_of<R: Files + Drop>(
+    rt: R,
+    alloc: Global,
+    command: Command,
+    words: &[String],
+) -> Result<HostSource<R>, HostFault> {
+    match (command, words) {
+        (Command::Check, [_, tree]) => HostSource::attach(rt, alloc, tree.as_str()),
+        _ => Ok(HostSource::none(rt, alloc)),
+    }
 }
 
 /// Does what the words say with the device of a data folder.
@@ -55,16 +103,13 @@ fn obey<R: Files<File = File> + Processes + Print + Drop>(
     folder: &str,
     words: &[String],
 ) -> Result<Status, HostFault> {
-    if read_command(words).is_none() {
-        let Ok(mut device) = plain_device(alloc) else {
-            return Err(HostFault::NoMemory);
-        };
-        let mut out = HostSink::new(rt);
-        return Ok(run(alloc, words, &mut out, &mut device));
-    }
-    let mut device = HostDevice::attach(&rt, alloc, folder)?;
+    let Some(command) = read_command(words) else {
+        return tell(rt, alloc, words);
+    };
     let mut out = HostSink::new(&rt);
-    Ok(run(alloc, words, &mut out, &mut device))
+    let (mut device, site) = HostDevice::attach(&rt, alloc, folder)?;
+    let mut source = source_of(&rt, alloc, command, words)?;
+    Ok(run(alloc, words, &site, &mut source, &mut out, &mut device))
 }
 
 fn main(rt: HostRuntime) -> ExitCode {

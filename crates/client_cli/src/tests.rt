@@ -1,15 +1,26 @@
 //! The store as a real file.
 
+mod trees;
+
 use crate::device::HostDevice;
 use crate::fault::HostFault;
+use crate::files::joined;
 use crate::obey;
 use device_model::{Device, ROOM};
 use std::alloc::Global;
 use std::fs::{self, File};
+use std::io;
 use std::os::unix::fs::PermissionsExt;
 use std::process::Processes;
 use std::rt::Files;
 use std::test::Fail;
+
+/// A data folder of a device of the type `beaglebone`.
+fn data_folder<R: Files>(rt: &R, alloc: Global, folder: &str) -> io::Result<()> {
+    fs::create_dir(rt, folder)?;
+    let path = joined(alloc, folder, "device_type")?;
+    fs::write(rt, path.as_str(), b"device_type=beaglebone\n")
+}
 
 /// Why the device of a folder can't be opened, if it can't.
 fn fault_of<R: Files<File = File> + Processes>(
@@ -22,8 +33,8 @@ fn fault_of<R: Files<File = File> + Processes>(
 
 #[test]
 fn a_store_that_is_absent_is_made_of_zeros(rt: HostRuntime) -> Result<(), Fail> {
-    fs::create_dir(&rt, "absent")?;
-    let mut device = HostDevice::attach(&rt, rt.alloc(), "absent").map_err(|_| "no device")?;
+    data_folder(&rt, rt.alloc(), "absent")?;
+    let (mut device, _) = HostDevice::attach(&rt, rt.alloc(), "absent").map_err(|_| "no device")?;
     assert_eq!(rt; fs::metadata(&rt, "absent/store")?.len(), 266_240);
     assert_eq!(rt; device.room(), ROOM);
     let mut into = [7; 3];
@@ -35,9 +46,9 @@ fn a_store_that_is_absent_is_made_of_zeros(rt: HostRuntime) -> Result<(), Fail> 
 
 #[test]
 fn a_short_store_keeps_its_bytes_and_grows(rt: HostRuntime) -> Result<(), Fail> {
-    fs::create_dir(&rt, "short")?;
+    data_folder(&rt, rt.alloc(), "short")?;
     fs::write(&rt, "short/store", b"abc")?;
-    let mut device = HostDevice::attach(&rt, rt.alloc(), "short").map_err(|_| "no device")?;
+    let (mut device, _) = HostDevice::attach(&rt, rt.alloc(), "short").map_err(|_| "no device")?;
     assert_eq!(rt; fs::metadata(&rt, "short/store")?.len(), 266_240);
     assert_eq!(rt; device.room(), ROOM);
     let mut into = [7; 4];
@@ -48,8 +59,8 @@ fn a_short_store_keeps_its_bytes_and_grows(rt: HostRuntime) -> Result<(), Fail> 
 
 #[test]
 fn a_write_stands_in_the_store(rt: HostRuntime) -> Result<(), Fail> {
-    fs::create_dir(&rt, "written")?;
-    let mut device = HostDevice::attach(&rt, rt.alloc(), "written").map_err(|_| "no device")?;
+    data_folder(&rt, rt.alloc(), "written")?;
+    let (mut device, _) = HostDevice::attach(&rt, rt.alloc(), "written").map_err(|_| "no device")?;
     assert_eq!(rt; device.room(), ROOM);
     assert_eq!(rt; device.disk_write(266_238, b"ab"), Ok(()));
     let mut into = [7; 3];
@@ -69,18 +80,28 @@ fn what_is_no_store_is_a_fault_of_the_host(rt: HostRuntime) -> Result<(), Fail> 
         fault_of(&rt, rt.alloc(), "file"),
         Some(HostFault::NoFolder)
     );
-    fs::create_dir(&rt, "folder")?;
+    data_folder(&rt, rt.alloc(), "folder")?;
     fs::create_dir(&rt, "folder/store")?;
     assert_eq!(rt;
         fault_of(&rt, rt.alloc(), "folder"),
         Some(HostFault::NoStore)
+    );
+    fs::create_dir(&rt, "untyped")?;
+    assert_eq!(rt;
+        fault_of(&rt, rt.alloc(), "untyped"),
+        Some(HostFault::NoDeviceType)
+    );
+    fs::write(&rt, "untyped/device_type", b"device_type=\n")?;
+    assert_eq!(rt;
+        fault_of(&rt, rt.alloc(), "untyped"),
+        Some(HostFault::BadDeviceType)
     );
     Ok(())
 }
 
 #[test]
 fn a_second_client_does_not_start(rt: HostRuntime) -> Result<(), Fail> {
-    fs::create_dir(&rt, "held")?;
+    data_folder(&rt, rt.alloc(), "held")?;
     let first = HostDevice::attach(&rt, rt.alloc(), "held").map_err(|_| "no device")?;
     assert_eq!(rt; fault_of(&rt, rt.alloc(), "held"), Some(HostFault::NoStore));
     drop(first);
@@ -100,6 +121,7 @@ const MODULE: &[u8] =
 
 #[test]
 fn a_module_is_called_with_its_state_and_its_folder(rt: HostRuntime) -> Result<(), Fail> {
+    data_folder(&rt, rt.alloc(), "resumed")?;
     fs::create_dir_all(&rt, "resumed/modules/v3")?;
     fs::write(&rt, "resumed/modules/v3/single-file", MODULE)?;
     let may_run = fs::Permissions::from_mode(0o755);

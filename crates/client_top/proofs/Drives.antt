@@ -1,5 +1,5 @@
 -- How a deployment goes on, from what the store and the device did.
-use Rattle.std.proofs.Common.{◌≡◌, ◌⊎◌, inl, inr, ⊎_elim, ℕ, Bool, true, false, List, [], ◌∷◌, ◌++◌, refl, sym, ap, ◌∙◌, subst, append-nil}
+use Rattle.std.proofs.Common.{◌≡◌, ◌⊎◌, inl, inr, ⊎_elim, ℕ, Bool, true, false, List, [], ◌∷◌, ◌++◌, refl, sym, ap, ◌∙◌, subst, append-nil, append_assoc}
 use Rattle.std.specs.Prelude.{Option, Some, None, Result, Ok, Err, MatchBool, not}
 use Rattle.device_model.specs.declared.calls.Event.{Event}
 use Rattle.device_model.specs.declared.calls.Event.TheVariants.{Start, End as Ends, Loss}
@@ -7,7 +7,7 @@ use Rattle.device_model.specs.declared.calls.Answer.{Answer}
 use Rattle.device_model.specs.declared.calls.Call.{Call}
 use Rattle.device_model.specs.declared.calls.Ran.TheVariants as ran
 use Rattle.device_model.specs.Disk.{Disk, IsTold, IsSettled, AddsNothing, KeepsDisk}
-use Rattle.device_model.specs.State.{State, LosesPower, EndsChild, LosesChild, with_events}
+use Rattle.device_model.specs.State.{State, LosesPower, LosesStarted, AfterChild, EndsChild, LosesChild, with_events}
 use Rattle.device_model.specs.declared.calls.Down.{Down}
 use Rattle.device_model.specs.declared.calls.Down.TheVariants as down
 use Rattle.device_model.specs.How.{How, Through, PowerLost, DiskFailed, how_of, EndsAs, loss_at}
@@ -18,12 +18,12 @@ use Rattle.record_codec.specs.declared.entry.Entry.{Entry}
 use Rattle.record_codec.specs.declared.entry.Db.{Db}
 use Rattle.slot_store.specs.Slots.{May, Sound, IsAt, IsOf, OldOrNew}
 use Rattle.slot_store.specs.Mount.{Kept}
-use Rattle.slot_store.specs.Put.{Wrote, IsPut, moved}
+use Rattle.slot_store.specs.Put.{IsFull, Wrote, IsPut, moved}
 use Rattle.record_codec.specs.declared.entry.Db.TheVariants.{Empty, Full}
 use Rattle.client_top.specs.declared.drive.CleanEnd.{CleanEnd}
 use Rattle.client_top.specs.declared.drive.CleanEnd.TheVariants as clean
 use Rattle.client_top.specs.Boot.{End, Ended, Halted, Leads, ends, ends_cut, cleaned, cut, cleaned_cut, at, finished, cleaning, IsEnd, Cleans, cleans, before, inside, behind}
-use Rattle.client_top.specs.Drives.{Called, Drove, Drives, IsEnding, IsFull, cut_off}
+use Rattle.client_top.specs.Drives.{Called, Drove, Drives, IsEnding, cut_off}
 use Rattle.client_top.proofs.Dids.{may-before}
 
 -- what a put leaves, whatever it answers
@@ -82,6 +82,7 @@ module _ (e : Entry) (p : Position) where
         (λ (m : May old.disk d). inr (refl, refl, m))
         (λ (is : d ≡ at e p). inl (subst (λ (x : Db). Leads e p [] Halted x) (sym is) (cut-before ending)))
         (w.any d may);
+    path = (at e p, cut-before ending);
     sound = w.sound;
     settled = λ h. absurd (not h);
   }
@@ -93,14 +94,12 @@ module _ (e : Entry) (p : Position) where
     journal = no-event old new w.went.journal;
     ends = w.went.ends;
     each = λ told d may. inl (subst (λ (x : Db). Leads e p [] (Ended p.outcome) x) (sym (w.is_at.alone (w.told told) d may)) (ends idle));
+    path = (at e p, ends idle);
     sound = w.went.sound;
     settled = λ h. w.settled;
   }
 
   module _ (old mid : State) (cleanup : p.state ≡ Cleanup) (w : PutDone (at e p) old mid) where
-    abbrev started : State
-    started = with_events (Start (cleaning e) ∷ []) mid
-
     one-stands : (new : Option Disk) (d : Db) → IsTold old.disk → AddsNothing mid.disk new → May new d → d ≡ at e p
     one-stands new d told adds may = w.is_at.alone (w.told told) d (may-before adds may)
 
@@ -110,22 +109,24 @@ module _ (e : Entry) (p : Position) where
       journal = journal-then (at e p) old mid new [] w.went (no-event mid new (ap (λ (s : State). s.journal) l.rest ∙ sym (ap (λ (b : Bool). mid.journal ++ loss_at b) (ap (λ (s : State). s.on) l.rest))));
       ends = ends-then PowerLost old mid new w.went.ends (record { on = ap (λ (s : State). s.on) l.rest; losses = ap (λ (s : State). s.losses) l.rest; faults = ap (λ (s : State). s.faults) l.rest });
       each = λ told d may. inl (subst (λ (x : Db). Leads e p [] Halted x) (sym (one-stands new.disk d told k.adds may)) (cut cleanup before));
+      path = (at e p, cut cleanup before);
       sound = λ s a h. w.went.sound s a (k.adds a h);
       settled = λ h. absurd cc;
     }
 
-    lost-inside : (new : State) → LosesPower 0 0 started new → KeepsDisk mid.disk new.disk → Drove e p Halted PowerLost old new
+    lost-inside : (new : State) → LosesStarted (cleaning e) mid new → KeepsDisk mid.disk new.disk → Drove e p Halted PowerLost old new
     lost-inside new l k = record {
       events = Start (cleaning e) ∷ [];
-      journal = journal-then (at e p) old mid new (Start (cleaning e) ∷ []) w.went (ap (λ (s : State). s.journal) l.rest ∙ sym (ap (λ (b : Bool). mid.journal ++ (Start (cleaning e) ∷ []) ++ loss_at b) (ap (λ (s : State). s.on) l.rest)));
+      journal = journal-then (at e p) old mid new (Start (cleaning e) ∷ []) w.went (ap (λ (s : State). s.journal) l.rest ∙ sym (append_assoc mid.journal (Start (cleaning e) ∷ []) (Loss ∷ [])) ∙ sym (ap (λ (b : Bool). mid.journal ++ (Start (cleaning e) ∷ []) ++ loss_at b) (ap (λ (s : State). s.on) l.rest)));
       ends = ends-then PowerLost old mid new w.went.ends (record { on = ap (λ (s : State). s.on) l.rest; losses = ap (λ (s : State). s.losses) l.rest; faults = ap (λ (s : State). s.faults) l.rest });
       each = λ told d may. inl (subst (λ (x : Db). Leads e p (Start (cleaning e) ∷ []) Halted x) (sym (one-stands new.disk d told k.adds may)) (cut cleanup inside));
+      path = (at e p, cut cleanup inside);
       sound = λ s a h. w.went.sound s a (k.adds a h);
       settled = λ h. absurd cc;
     }
 
     child-lost : (on : Bool) (new : State) → on ≡ true → MatchBool on (LosesChild (cleaning e) mid new) (new ≡ mid) → KeepsDisk mid.disk new.disk → Drove e p Halted PowerLost old new
-    child-lost true new is h k = ⊎_elim (λ (l : LosesPower 0 0 mid new). lost-before new l k) (λ (l : LosesPower 0 0 started new). lost-inside new l k) h
+    child-lost true new is h k = ⊎_elim (λ (l : LosesPower 0 0 mid new). lost-before new l k) (λ (l : LosesStarted (cleaning e) mid new). lost-inside new l k) h
     child-lost false new is h k = absurd cc
 
     -- power was lost at the child
@@ -133,22 +134,22 @@ module _ (e : Entry) (p : Position) where
     drove-child-lost new h k = child-lost mid.on new w.went.ends.on h k
 
     -- the child ended in this way, or was not started
-    module _ (a : Answer) (is_end : IsEnd a) (child : State) (child_is : child ≡ with_events (Start (cleaning e) ∷ Ends a ∷ []) mid) where
+    module _ (a : Answer) (is_end : IsEnd a) (child : State) (after : AfterChild (Start (cleaning e) ∷ Ends a ∷ []) mid child) where
       abbrev word : List Event
       word = Start (cleaning e) ∷ Ends a ∷ []
 
       same-disk : child.disk ≡ mid.disk
-      same-disk = ap (λ (s : State). s.disk) child_is
+      same-disk = ap (λ (s : State). s.disk) after.rest
 
       child-ends : EndsAs Through old child
       child-ends = record {
-        on = ap (λ (s : State). s.on) child_is ∙ w.went.ends.on;
-        losses = ap (λ (s : State). s.losses) child_is ∙ w.went.ends.losses;
-        faults = ap (λ (s : State). s.faults) child_is ∙ w.went.ends.faults;
+        on = ap (λ (s : State). s.on) after.rest ∙ w.went.ends.on;
+        losses = ap (λ (s : State). s.losses) after.rest ∙ w.went.ends.losses;
+        faults = ap (λ (s : State). s.faults) after.rest ∙ w.went.ends.faults;
       }
 
       word-journal : (next : Db) (how : How) (new : State) → PutWent next how child new → new.journal ≡ old.journal ++ word ++ loss_at new.on
-      word-journal next how new v = journal-then (at e p) old mid new word w.went (v.journal ∙ ap (λ (s : State). s.journal ++ loss_at new.on) child_is)
+      word-journal next how new v = journal-then (at e p) old mid new word w.went (v.journal ∙ ap (λ (s : State). s.journal ++ loss_at new.on) after.rest)
 
       still : (d : Db) → IsTold old.disk → May child.disk d → d ≡ at e p
       still d told may = w.is_at.alone (w.told told) d (subst (λ (x : Option Disk). May x d) same-disk may)
@@ -166,6 +167,7 @@ module _ (e : Entry) (p : Position) where
             (λ (m : May child.disk d). subst (λ (x : Db). Leads e p word Halted x) (sym (still d told m)) (cut cleanup (behind (cleans a is_end))))
             (λ (is : d ≡ at e (finished p)). subst (λ (x : Db). Leads e p word Halted x) (sym is) (cleaned_cut cleanup (cleans a is_end)))
             (v.any d may));
+        path = (at e p, cut cleanup (behind (cleans a is_end)));
         sound = sound-then (at e (finished p)) how new v;
         settled = λ h. absurd (not h);
       }
@@ -180,6 +182,7 @@ module _ (e : Entry) (p : Position) where
         journal = word-journal (at e (finished p)) Through new v.went;
         ends = ends-then Through old child new child-ends v.went.ends;
         each = λ told d may. inl (subst (λ (x : Db). Leads e p word (Ended p.outcome) x) (sym (v.is_at.alone (v.told (told-child told)) d may)) (cleaned cleanup (cleans a is_end)));
+        path = (at e (finished p), cleaned cleanup (cleans a is_end));
         sound = sound-then (at e (finished p)) Through new v.went;
         settled = λ h. v.settled;
       }

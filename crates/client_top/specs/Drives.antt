@@ -1,12 +1,12 @@
 -- How a deployment went on.
-use Rattle.std.specs.Prelude.{◌≡◌, ◌⊎◌, ℕ, Bool, true, false, List, [], ◌∷◌, ◌++◌, ⊤, IsTrue}
+use Rattle.std.specs.Prelude.{◌≡◌, ◌⊎◌, Bool, true, false, List, [], ◌∷◌, ◌++◌, ⊤, IsTrue, Result, Ok, Err}
 use Rattle.device_model.specs.declared.calls.Event.{Event}
 use Rattle.device_model.specs.declared.calls.Event.TheVariants.{Start, End as Ends}
 use Rattle.device_model.specs.declared.calls.Call.{Call}
 use Rattle.device_model.specs.declared.calls.Answer.{Answer}
 use Rattle.device_model.specs.declared.calls.Ran.TheVariants as ran
 use Rattle.device_model.specs.Disk.{IsTold, IsSettled, KeepsDisk}
-use Rattle.device_model.specs.State.{State, EndsChild, with_events}
+use Rattle.device_model.specs.State.{State, EndsChild, AfterChild}
 use Rattle.device_model.specs.How.{How, Through, PowerLost, DiskFailed, EndsAs, loss_at}
 use Rattle.flow_table.specs.declared.position.State.TheVariants.{Idle, Cleanup}
 use Rattle.flow_table.specs.declared.position.Outcome.{Outcome}
@@ -20,7 +20,7 @@ use Rattle.client_top.specs.declared.drive.CleanEnd.{CleanEnd}
 use Rattle.client_top.specs.declared.drive.CleanEnd.TheVariants as clean
 use Rattle.client_top.specs.declared.status.Good.TheVariants.{Committed}
 use Rattle.client_top.specs.declared.status.Status.{Status}
-use Rattle.client_top.specs.declared.status.Status.TheVariants.{Done, NoUpdate, Inconsistent, DiskFault, PowerOff, NotInstalled}
+use Rattle.client_top.specs.declared.status.Status.TheVariants.{Done, NoUpdate, Inconsistent, DiskFault, PowerOff, NotInstalled, NotYet}
 use Rattle.flow_table.specs.Valid.{is_valid}
 use Rattle.device_model.specs.declared.calls.Down.{Down}
 use Rattle.device_model.specs.declared.calls.Down.TheVariants as down
@@ -33,12 +33,13 @@ pub record Drove (e : Entry) (p : Position) (end : End) (how : How) (old new : S
   pub journal : new.journal ≡ old.journal ++ events ++ loss_at new.on
   pub ends : EndsAs how old new
   pub each : IsTold old.disk → (d : Db) → May new.disk d → Leads e p events end d ⊎ ((end ≡ Halted) × (events ≡ []) × May old.disk d)
+  pub path : (d : Db) × Leads e p events end d
   pub sound : Sound old.disk → Sound new.disk
   pub settled : how ≡ Through → IsSettled new.disk
 
 -- a module was called: it ended or was not started, or power was lost
 abbrev pub Called : Call → Bool → State → State → Type 0
-Called c true old new = (a : Answer) × IsEnd a × (new ≡ with_events (Start c ∷ Ends a ∷ []) old)
+Called c true old new = (a : Answer) × IsEnd a × AfterChild (Start c ∷ Ends a ∷ []) old new
 Called c false old new = EndsChild c old ran.Off new × KeepsDisk old.disk new.disk
 
 abbrev pub clean_how : CleanEnd → How
@@ -59,10 +60,6 @@ Drives (Full e) p end old new = Drove e p (end_of_clean end) (clean_how end) old
 -- the deployment is in its cleanup, or has come to its end
 abbrev pub IsEnding : Position → Type 0
 IsEnding p = (p.state ≡ Cleanup) ⊎ (p.state ≡ Idle)
-
-abbrev pub IsFull : Db → Type 0
-IsFull Empty = ⊥
-IsFull (Full e) = ⊤
 
 abbrev pub IsDecided : Outcome → Type 0
 IsDecided outcome.Undecided = ⊥
@@ -102,7 +99,18 @@ abbrev pub EndsWith : Position → CleanEnd → Type 0
 EndsWith p (clean.Ended o) = o ≡ p.outcome
 EndsWith p end = ⊤
 
+-- an answer with which nothing goes on
+abbrev pub IsResting : Status → Type 0
+IsResting NoUpdate = ⊤
+IsResting (NotYet what) = what ≡ 2
+IsResting _ = ⊥
+
+-- the answer where no deployment goes on, or the position that is entered
+abbrev pub Opens : Db → Result Position Status → Type 0
+Opens db (Ok p) = EntersDb db p
+Opens db (Err status) = (resumed db ≡ Answers status) × IsResting status
+
 -- what was done with the database of a store, by the answer
 pub data WentOn (db : Db) : Status → State → State → Type 0 where
-  rested : {status : Status} {old new : State} → resumed db ≡ Answers NoUpdate → status ≡ NoUpdate → new ≡ old → WentOn db status old new
+  rested : {status : Status} {old new : State} → resumed db ≡ Answers status → IsResting status → new ≡ old → WentOn db status old new
   drove : {status : Status} {old new : State} (p : Position) (end : CleanEnd) → EntersDb db p → EndsWith p end → status ≡ status_after end → Drives db p end old new → WentOn db status old new

@@ -1,4 +1,5 @@
 pub mod Words
+pub mod Refusals
 pub mod Texts
 pub mod Boot
 pub mod Obeyed

@@ -7,9 +7,10 @@ use Rattle.record_codec.specs.Held.{held, marked}
 use Rattle.flow_table.specs.declared.position.Outcome.{Outcome}
 use Rattle.flow_table.specs.declared.position.Outcome.TheVariants.{Undecided, Kept, RolledBack}
 use Rattle.flow_table.specs.declared.position.Outcome.TheVariants as outcome
-use Rattle.client_top.specs.declared.status.Good.TheVariants.{Committed, Shown}
+use Rattle.client_top.specs.declared.status.Good.TheVariants.{Committed, Shown, Admitted}
 use Rattle.client_top.specs.declared.status.Status.{Status}
-use Rattle.client_top.specs.declared.status.Status.TheVariants.{Done, NoUpdate, Inconsistent, DiskFault, NoMemory, SinkFault, PowerOff, BadStore, NotInstalled, NotYet}
+use Rattle.client_top.specs.declared.status.Status.TheVariants.{Done, Refused, NoUpdate, Inconsistent, DiskFault, SourceFault, NoMemory, SinkFault, PowerOff, BadStore, TooLarge, NotInstalled, NotYet}
+use Rattle.client_top.specs.Refusals.{refused}
 
 -- key=value and a newline
 unfoldable pub line : List ℕ × List ℕ → List ℕ
@@ -36,12 +37,16 @@ outcome_text outcome.Inconsistent = codes "inconsistent"
 unfoldable pub text_of : Status → List ℕ
 text_of (Done Committed) = codes "committed\n"
 text_of (Done Shown) = []
+text_of (Done Admitted) = codes "admitted\n"
+text_of (Refused refusal) = refused refusal ++ codes "\n"
 text_of NoUpdate = codes "no update\n"
 text_of Inconsistent = codes "inconsistent\n"
 text_of DiskFault = codes "disk fault\n"
+text_of SourceFault = codes "source fault\n"
 text_of NoMemory = codes "no memory\n"
 text_of SinkFault = []
 text_of PowerOff = []
 text_of (BadStore offset) = codes "bad store " ++ decimal offset ++ codes "\n"
+text_of (TooLarge bytes) = codes "too large " ++ decimal bytes ++ codes "\n"
 text_of (NotInstalled how) = codes "not installed: " ++ outcome_text how ++ codes "\n"
 text_of (NotYet what) = codes "not yet " ++ decimal what ++ codes "\n"

@@ -1,12 +1,13 @@
 //! A deployment that goes on from its cleanup.
 
-ghost use Rattle.std.specs.Prelude.{◌≡◌, ◌≤◌, ◌↔◌, true, IsTrue, MatchOption};
+ghost use Rattle.std.specs.Prelude.{◌≡◌, ◌≤◌, ◌↔◌, true, IsTrue};
 ghost use Rattle.device_model.specs.State.{IsPlain};
 ghost use Rattle.flow_table.specs.Valid.{is_valid};
 ghost use Rattle.record_codec.specs.Spelling.{IsRight, IfFull};
 ghost use Rattle.slot_store.specs.Slots.{IsOf};
-ghost use Rattle.client_top.specs.Boot.{Answers, cleaning, finished, is_plain, resumed};
-ghost use Rattle.client_top.specs.Drives.{Called, Drives, IsEnding, IsFull, EntersDb, EndsWith, cut_off, status_after, status_ended};
+ghost use Rattle.slot_store.specs.Put.{IsFull};
+ghost use Rattle.client_top.specs.Boot.{cleaning, finished};
+ghost use Rattle.client_top.specs.Drives.{Called, Drives, IsEnding, Opens, EndsWith, cut_off, status_after, status_ended};
 
 use crate::status::{Good, Status};
 use device_model::{Call, Device, Down, ModState, Ran};
@@ -22,18 +23,18 @@ pub(crate) enum CleanEnd {
     DiskFault,
 }
 
-/// The position that the deployment enters when it is resumed. None where there is none to go on with.
-pub(crate) fn entered(db: &Db) -> Option<Position>
-    requires plain { is_plain db.now ≡ true }
-    requires right { IfFull IsRight db.now }
-    ensures { MatchOption result (resumed db.now ≡ Answers Status.NoUpdate) (λ p. EntersDb db.now p) }
+/// The position that the deployment enters when it is resumed, or the answer where none goes on.
+pub(crate) fn entered(db: &Db) -> Result<Position, Status>
+    requires { IfFull IsRight db.now }
+    ensures { Opens db.now result }
 {
     let Db::Full(entry) = db else {
-        return None;
+        return Err(Status::NoUpdate);
     };
     match entry.position.state {
-        State::Cleanup => Some(lost(&entry.position)),
-        _ => None,
+        State::Cleanup => Ok(lost(&entry.position)),
+        State::Idle => Err(Status::NoUpdate),
+        _ => Err(Status::NotYet(2)),
     }
 }
 
@@ -82,7 +83,8 @@ fn module_ended<D: Device>(device: &mut D, call: &Call) -> bool
     requires on { (D.means device.old).on ≡ true }
     requires room { 3 ≤ (D.means device.old).room }
     requires plain { IsPlain call.now }
-    ensures { Called call.now result (D.means device.old) (D.means device.new) }
+    ensures plan { D.plan device.new ≡ D.plan device.old }
+    ensures called { Called call.now result (D.means device.old) (D.means device.new) }
 {
     match device.run_child(call) {
         Ran::Exit(_) => true,
@@ -100,6 +102,7 @@ pub(crate) fn clean_up<D: Device>(store: &mut Store, device: &mut D, position: P
     requires ending { IsEnding position }
     requires of { IsOf store.old.picked (D.means device.old).disk }
     ensures outcome { EndsWith position result }
+    ensures plan { D.plan device.new ≡ D.plan device.old }
     ensures drove { Drives store.old.db position result (D.means device.old) (D.means device.new) }
 {
     let Db::Full(entry) = store.db() else {

@@ -3,8 +3,10 @@
 
 mod act;
 mod call;
+mod check;
 mod drive;
 mod line;
+mod refusal;
 mod show;
 mod status;
 mod words;

@@ -2,7 +2,6 @@
 
 ghost use Rattle.std.specs.Prelude.{◌≡◌, ◌++◌, ◌≤◌, length, codes};
 ghost use Rattle.std.specs.List.{flat_map};
-ghost use Rattle.std.specs.Fmt.{decimal};
 ghost use Rattle.std.specs.Str.{bytes_eq};
 ghost use Rattle.provides_map.specs.After.{artifact_name};
 ghost use Rattle.provides_map.specs.Pairs.{IsMap};
@@ -11,12 +10,13 @@ ghost use Rattle.record_codec.specs.Held.{marked, held_of};
 ghost use Rattle.client_top.specs.Texts.{line, mark_if, outcome_text, shown, text_of};
 
 use crate::line::Line;
+use crate::refusal::{numbered, refused};
 use crate::status::{Good, Status};
 use flow_table::Outcome;
 use io_model::{Sink, SinkFault};
 use provides_map::Provides;
 use record_codec::{Db, Entry};
-use upd_text::{Name, Value, decimal};
+use upd_text::{Name, Value};
 
 /// `key=value` and a newline.
 #[tactic(auto, unfolding(crate::specs::Texts::line))]
@@ -116,18 +116,6 @@ pub(crate) fn show<O: Sink>(out: &mut O, db: &Db) -> Result<(), SinkFault>
     }
 }
 
-fn numbered(front: &[u8], n: u32) -> Line
-    requires { length front.now ≤ 64 }
-    ensures { result ≡ front.now ++ decimal n ++ codes "\n" }
-{
-    let digits = decimal(u64::from(n));
-    let mut text = Line::new();
-    text.add(front);
-    text.add(digits.bytes());
-    text.add(b"\n");
-    text
-}
-
 #[tactic(auto, unfolding(crate::specs::Texts::outcome_text))]
 fn outcome_text(outcome: Outcome) -> &'static [u8]
     ensures text { result.now ≡ outcome_text outcome }
@@ -154,20 +142,24 @@ fn not_installed(outcome: Outcome) -> Line
 
 /// Writes the text of an answer that shows nothing.
 #[tactic(auto, unfolding(crate::specs::Texts::text_of))]
-pub(crate) fn say<O: Sink>(out: &mut O, status: Status) -> Result<(), SinkFault>
-    ensures { Puts (O.means out.old) (text_of status) result (O.means out.new) }
+pub(crate) fn say<O: Sink>(out: &mut O, status: &Status) -> Result<(), SinkFault>
+    ensures { Puts (O.means out.old) (text_of status.now) result (O.means out.new) }
 {
     match status {
         Status::Done(Good::Committed) => out.put(b"committed\n"),
         Status::Done(Good::Shown) => Ok(()),
+        Status::Done(Good::Admitted) => out.put(b"admitted\n"),
+        Status::Refused(refusal) => out.put(refused(refusal).bytes()),
         Status::NoUpdate => out.put(b"no update\n"),
         Status::Inconsistent => out.put(b"inconsistent\n"),
         Status::DiskFault => out.put(b"disk fault\n"),
+        Status::SourceFault => out.put(b"source fault\n"),
         Status::NoMemory => out.put(b"no memory\n"),
         Status::SinkFault => Ok(()),
         Status::PowerOff => Ok(()),
-        Status::BadStore(offset) => out.put(numbered(b"bad store ", offset).bytes()),
-        Status::NotInstalled(outcome) => out.put(not_installed(outcome).bytes()),
-        Status::NotYet(what) => out.put(numbered(b"not yet ", what).bytes()),
+        Status::BadStore(offset) => out.put(numbered(b"bad store ", u64::from(*offset)).bytes()),
+        Status::TooLarge(bytes) => out.put(numbered(b"too large ", *bytes).bytes()),
+        Status::NotInstalled(outcome) => out.put(not_installed(*outcome).bytes()),
+        Status::NotYet(what) => out.put(numbered(b"not yet ", u64::from(*what)).bytes()),
     }
 }

@@ -1,15 +1,19 @@
-//! What the client shows of records, by tables.
+//! What the client shows and answers over a device in memory, by tables.
 
-mod failing;
+mod check;
+mod stops;
+
+ghost use Rattle.std.specs.Prelude.{◌≡◌, true, [], IfOk};
+ghost use Rattle.device_mem.specs.Mem.{state_of};
 
 use super::*;
-use crate::tests::failing::FailingDevice;
-use device_model::{AREA, AreaBytes, ExitList, PlainDevice, ROOM};
-use flow_table::Outcome;
-use io_model::MemSink;
+use device_mem::{AnswerList, AreaBytes, LossList, MemDevice, Script};
+use device_model::{Answer, ROOM};
+use io_model::{FileList, MemSink, MemSource};
+use script_names::{ScriptList, Site};
 use std::alloc::Global;
 use std::test::Fail;
-use upd_text::CallList;
+use upd_text::{CallList, Name, NoMemory};
 
 /// The record of a finished update to release-2.
 const RECORD: [u8; 75] = *b"MUP1\x00\x02\x00\x00\x05\x00\x00\x00\x00\x00\x00\x4b\
@@ -35,6 +39,49 @@ fn area_with(alloc: Global, selector: u8, slot: u32, at: u32, byte: u8) -> Resul
     Ok(area)
 }
 
+/// A device of this area, which loses power and fails where it is told to.
+fn device_of(
+    alloc: Global,
+    area: AreaBytes,
+    losses: LossList,
+    faults: CallList,
+) -> Result<MemDevice, NoMemory>
+    ensures on { IfOk result (λ d. (state_of d).on ≡ true) }
+    ensures journal { IfOk result (λ d. (state_of d).journal ≡ []) }
+    ensures room { IfOk result (λ d. (state_of d).room ≡ ROOM) }
+{
+    let script = Script {
+        answers: AnswerList::new(alloc),
+        supports: Answer::Exit(0),
+        needs: Answer::Exit(0),
+        losses,
+        cuts: CallList::new(alloc),
+        faults,
+        meddle: false,
+    };
+    MemDevice::new(alloc, area, ROOM, script)
+}
+
+fn calm_device(alloc: Global, area: AreaBytes) -> Result<MemDevice, NoMemory>
+    ensures on { IfOk result (λ d. (state_of d).on ≡ true) }
+    ensures journal { IfOk result (λ d. (state_of d).journal ≡ []) }
+    ensures room { IfOk result (λ d. (state_of d).room ≡ ROOM) }
+{
+    device_of(alloc, area, LossList::new(alloc), CallList::new(alloc))
+}
+
+/// A device of this type without scripts.
+fn site_of(alloc: Global, device_type: &str) -> Result<Site, Fail> {
+    Ok(Site {
+        device_type: Name::read(device_type.as_bytes()).ok().ok_or("no name")?,
+        scripts: ScriptList::new(alloc),
+    })
+}
+
+fn no_tree(alloc: Global) -> MemSource {
+    MemSource::new(FileList::new(alloc), CallList::new(alloc))
+}
+
 fn words_of(alloc: Global, word: &str) -> Result<Vec<String>, Fail> {
     let mut words = Vec::new(alloc);
     words.push(String::from_str(alloc, word)?)?;
@@ -52,38 +99,44 @@ fn said(
     let mut list = CallList::new(alloc);
     list.push(failing)?;
     let mut out = MemSink::new(alloc, 200_000, list)?;
-    let mut device = PlainDevice::new(alloc, area, ROOM, ExitList::new(alloc))?;
-    let status = run(alloc, words.as_slice(), &mut out, &mut device);
+    let mut device = calm_device(alloc, area)?;
+    let site = site_of(alloc, "beaglebone")?;
+    let mut source = no_tree(alloc);
+    let words = words.as_slice();
+    let status = run(alloc, words, &site, &mut source, &mut out, &mut device);
     Ok((status, out))
 }
 
 #[test]
-fn a_finished_record_shows_what_it_holds(rt: HostRuntime) -> Result<(), Fail> {
-    let shown = Status::Done(Good::Shown);
+fn a_record_shows_what_it_holds(rt: HostRuntime) -> Result<(), Fail> {
     let marked = b"app.version=2\nartifact_name=release-2_INCONSISTENT\n".as_slice();
     // the selector, the slot of the record, the byte that is changed and to what, the answer, the text
-    let rows: [(u8, u32, u32, u8, Status, &[u8]); 16] = [
-        (0, SLOT_0, 0, b'M', shown, NEW),
-        (1, SLOT_0, 0, b'M', shown, b""),
-        (1, SLOT_1, 0, b'M', shown, NEW),
-        (254, SLOT_0, 0, b'M', shown, NEW),
-        (255, SLOT_1, 0, b'M', shown, NEW),
-        (0, SLOT_0, 5, 1, shown, b""),
-        (0, SLOT_0, 5, 3, shown, b""),
-        (0, SLOT_0, 5, 4, shown, marked),
-        (0, SLOT_0, 4, 6, Status::NotYet(2), b"not yet 2\n"),
-        (0, SLOT_0, 4, 13, Status::NotYet(2), b"not yet 2\n"),
-        (0, SLOT_0, 8, 0, Status::NotYet(2), b"not yet 2\n"),
-        (0, SLOT_0, 15, 74, Status::NotYet(2), b"not yet 2\n"),
-        (0, SLOT_0, 15, 76, Status::NotYet(2), b"not yet 2\n"),
-        (0, SLOT_0, 22, b'z', Status::NotYet(2), b"not yet 2\n"),
-        (0, SLOT_0, 0, 1, Status::BadStore(0), b"bad store 0\n"),
-        (0, SLOT_0, 3, b'2', Status::BadStore(0), b"bad store 0\n"),
+    let rows: [(u8, u32, u32, u8, u8, &[u8]); 20] = [
+        (0, SLOT_0, 0, b'M', 0, NEW),
+        (1, SLOT_0, 0, b'M', 0, b""),
+        (1, SLOT_1, 0, b'M', 0, NEW),
+        (254, SLOT_0, 0, b'M', 0, NEW),
+        (255, SLOT_1, 0, b'M', 0, NEW),
+        (0, SLOT_0, 5, 1, 0, b""),
+        (0, SLOT_0, 5, 3, 0, b""),
+        (0, SLOT_0, 5, 4, 0, marked),
+        (0, SLOT_0, 4, 6, 0, NEW),
+        (0, SLOT_0, 4, 11, 0, NEW),
+        (0, SLOT_0, 4, 2, 11, b"bad store 5\n"),
+        (0, SLOT_0, 4, 10, 11, b"bad store 5\n"),
+        (0, SLOT_0, 4, 13, 11, b"bad store 4\n"),
+        (0, SLOT_0, 8, 0, 11, b"bad store 8\n"),
+        (0, SLOT_0, 8, 29, 11, b"bad store 8\n"),
+        (0, SLOT_0, 15, 74, 11, b"bad store 74\n"),
+        (0, SLOT_0, 15, 76, 11, b"bad store 75\n"),
+        (0, SLOT_0, 22, b'z', 11, b"bad store 36\n"),
+        (0, SLOT_0, 0, 1, 11, b"bad store 0\n"),
+        (0, SLOT_0, 3, b'2', 11, b"bad store 0\n"),
     ];
     for (selector, slot, at, byte, status, text) in rows {
         let area = area_with(rt.alloc(), selector, slot, at, byte)?;
         let (answer, out) = said(rt.alloc(), "show-provides", area, 9)?;
-        assert_eq!(rt; answer, status);
+        assert_eq!(rt; answer.number(), status);
         assert_eq!(rt; out.written(), text);
     }
     Ok(())
@@ -94,7 +147,7 @@ fn garbage_in_the_other_slot_has_no_meaning(rt: HostRuntime) -> Result<(), Fail>
     let mut area = area_with(rt.alloc(), 1, SLOT_1, 0, b'M')?;
     area.set(SLOT_0, &[0x5a; 4_096]);
     let (answer, out) = said(rt.alloc(), "show-provides", area, 9)?;
-    assert_eq!(rt; answer, Status::Done(Good::Shown));
+    assert_eq!(rt; answer.number(), 0);
     assert_eq!(rt; out.written(), NEW);
     Ok(())
 }
@@ -104,7 +157,7 @@ fn other_words_are_told_as_such(rt: HostRuntime) -> Result<(), Fail> {
     for word in ["", "show-provide", "show-providesx", "install", "--help"] {
         let area = area_with(rt.alloc(), 0, SLOT_0, 0, b'M')?;
         let (answer, out) = said(rt.alloc(), word, area, 9)?;
-        assert_eq!(rt; answer, Status::NotYet(1));
+        assert_eq!(rt; answer.number(), 16);
         assert_eq!(rt; out.written(), b"not yet 1\n".as_slice());
     }
     Ok(())
@@ -112,59 +165,12 @@ fn other_words_are_told_as_such(rt: HostRuntime) -> Result<(), Fail> {
 
 #[test]
 fn a_sink_that_fails_has_a_front_of_the_text(rt: HostRuntime) -> Result<(), Fail> {
-    let rows: [(u64, Status, &[u8]); 3] = [
-        (0, Status::SinkFault, b""),
-        (1, Status::SinkFault, b"app.version=2\n"),
-        (2, Status::Done(Good::Shown), NEW),
-    ];
+    let rows: [(u64, u8, &[u8]); 3] = [(0, 8, b""), (1, 8, b"app.version=2\n"), (2, 0, NEW)];
     for (failing, status, text) in rows {
         let area = area_with(rt.alloc(), 0, SLOT_0, 0, b'M')?;
         let (answer, out) = said(rt.alloc(), "show-provides", area, failing)?;
-        assert_eq!(rt; answer, status);
+        assert_eq!(rt; answer.number(), status);
         assert_eq!(rt; out.written(), text);
-    }
-    Ok(())
-}
-
-#[test]
-fn exit_statuses(rt: HostRuntime) -> Result<(), Fail> {
-    let rows = [
-        (Status::Done(Good::Shown), 0),
-        (Status::DiskFault, 5),
-        (Status::NoMemory, 7),
-        (Status::SinkFault, 8),
-        (Status::PowerOff, 10),
-        (Status::BadStore(3), 11),
-        (Status::NotYet(2), 16),
-    ];
-    for (status, number) in rows {
-        assert_eq!(rt; status.number(), number);
-    }
-    Ok(())
-}
-
-#[test]
-fn a_device_that_fails_or_loses_power_is_told_as_such(rt: HostRuntime) -> Result<(), Fail> {
-    let words = words_of(rt.alloc(), "show-provides")?;
-    // how many calls go through, whether power is lost then, the answer, its text, the counts of faults, losses and events
-    let rows: [(u32, bool, Status, &[u8], (u64, u64, u32)); 7] = [
-        (0, false, Status::DiskFault, b"disk fault\n", (1, 0, 0)),
-        (1, false, Status::DiskFault, b"disk fault\n", (1, 0, 0)),
-        (2, false, Status::DiskFault, b"disk fault\n", (1, 0, 0)),
-        (0, true, Status::PowerOff, b"", (0, 1, 1)),
-        (1, true, Status::PowerOff, b"", (0, 1, 1)),
-        (2, true, Status::PowerOff, b"", (0, 1, 1)),
-        (3, true, Status::Done(Good::Shown), b"", (0, 0, 0)),
-    ];
-    for (left, loses, status, text, counts) in rows {
-        let mut out = MemSink::new(rt.alloc(), 100, CallList::new(rt.alloc()))?;
-        let mut device = FailingDevice::new(rt.alloc(), left, loses)?;
-        assert_eq!(rt;
-            run(rt.alloc(), words.as_slice(), &mut out, &mut device),
-            status
-        );
-        assert_eq!(rt; out.written(), text);
-        assert_eq!(rt; device.counts(), counts);
     }
     Ok(())
 }
@@ -197,7 +203,7 @@ fn the_largest_record_is_shown_whole(rt: HostRuntime) -> Result<(), Fail> {
     let mut area = AreaBytes::zeros(rt.alloc())?;
     area.set(SLOT_0, record.as_slice());
     let (answer, out) = said(rt.alloc(), "show-provides", area, 200)?;
-    assert_eq!(rt; answer, Status::Done(Good::Shown));
+    assert_eq!(rt; answer.number(), 0);
     assert_eq!(rt; out.written().len(), 130_791);
     assert!(rt; out.written().starts_with(b"artifact_name=r\nb00=vvv"));
     assert!(rt; out.written().ends_with(b"vvv\n"));
@@ -210,7 +216,7 @@ fn resumed(
     state: u8,
     outcome: u8,
     n: u8,
-) -> Result<(Status, MemSink, PlainDevice), Fail> {
+) -> Result<(Status, MemSink, MemDevice), Fail> {
     let mut area = AreaBytes::zeros(alloc)?;
     area.set(SLOT_0, &RECORD);
     area.set(SLOT_0 + 4, &[state]);
@@ -218,67 +224,34 @@ fn resumed(
     area.set(SLOT_0 + 8, &[n]);
     let words = words_of(alloc, "resume")?;
     let mut out = MemSink::new(alloc, 100, CallList::new(alloc))?;
-    let mut device = PlainDevice::new(alloc, area, ROOM, ExitList::new(alloc))?;
-    let status = run(alloc, words.as_slice(), &mut out, &mut device);
+    let mut device = calm_device(alloc, area)?;
+    let site = site_of(alloc, "beaglebone")?;
+    let mut source = no_tree(alloc);
+    let words = words.as_slice();
+    let status = run(alloc, words, &site, &mut source, &mut out, &mut device);
     Ok((status, out, device))
 }
 
-fn byte_at(device: &PlainDevice, at: usize) -> Option<u8> {
+fn byte_at(device: &MemDevice, at: usize) -> Option<u8> {
     device.area().get(at).copied()
 }
 
 #[test]
 fn a_cleanup_is_resumed(rt: HostRuntime) -> Result<(), Fail> {
-    // state, outcome and n in the record; the answer, its text, the events, the selector, and n in the picked slot
-    let rows: [(u8, u8, u8, Status, &[u8], u32, u8, u8); 8] = [
-        (
-            11,
-            2,
-            4,
-            Status::Done(Good::Committed),
-            b"committed\n",
-            2,
-            0,
-            5,
-        ),
-        (
-            11,
-            2,
-            28,
-            Status::Done(Good::Committed),
-            b"committed\n",
-            0,
-            1,
-            28,
-        ),
-        (
-            11,
-            1,
-            4,
-            Status::NotInstalled(Outcome::Kept),
-            b"not installed: kept\n",
-            2,
-            0,
-            5,
-        ),
-        (
-            11,
-            3,
-            4,
-            Status::NotInstalled(Outcome::RolledBack),
-            b"not installed: rolled back\n",
-            2,
-            0,
-            5,
-        ),
-        (11, 4, 27, Status::Inconsistent, b"inconsistent\n", 2, 0, 28),
-        (11, 4, 28, Status::Inconsistent, b"inconsistent\n", 0, 1, 28),
-        (0, 2, 5, Status::NoUpdate, b"no update\n", 0, 0, 5),
-        (2, 0, 2, Status::NotYet(2), b"not yet 2\n", 0, 0, 2),
+    // state, outcome and n in the record; the exit status, the text, the events, the selector, and n in the picked slot
+    let rows: [([u8; 3], u8, &[u8], u32, u8, u8); 8] = [
+        ([11, 2, 4], 0, b"committed\n", 2, 0, 5),
+        ([11, 2, 28], 0, b"committed\n", 0, 1, 28),
+        ([11, 1, 4], 14, b"not installed: kept\n", 2, 0, 5),
+        ([11, 3, 4], 14, b"not installed: rolled back\n", 2, 0, 5),
+        ([11, 4, 27], 3, b"inconsistent\n", 2, 0, 28),
+        ([11, 4, 28], 3, b"inconsistent\n", 0, 1, 28),
+        ([0, 2, 5], 2, b"no update\n", 0, 0, 5),
+        ([2, 0, 2], 16, b"not yet 2\n", 0, 0, 2),
     ];
-    for (state, outcome, n, status, text, events, selector, left) in rows {
+    for ([state, outcome, n], status, text, events, selector, left) in rows {
         let (answer, out, device) = resumed(rt.alloc(), state, outcome, n)?;
-        assert_eq!(rt; answer, status);
+        assert_eq!(rt; answer.number(), status);
         assert_eq!(rt; out.written(), text);
         assert_eq!(rt; device.journal().len(), events);
         assert_eq!(rt; byte_at(&device, 0), Some(selector));
@@ -291,7 +264,7 @@ fn a_cleanup_is_resumed(rt: HostRuntime) -> Result<(), Fail> {
 #[test]
 fn an_empty_store_has_no_update(rt: HostRuntime) -> Result<(), Fail> {
     let (answer, out) = said(rt.alloc(), "resume", AreaBytes::zeros(rt.alloc())?, 9)?;
-    assert_eq!(rt; answer, Status::NoUpdate);
+    assert_eq!(rt; answer.number(), 2);
     assert_eq!(rt; out.written(), b"no update\n".as_slice());
     Ok(())
 }

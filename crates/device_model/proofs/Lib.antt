@@ -2,3 +2,4 @@ pub mod Keeps
 pub mod Refilled
 pub mod Waits
 pub mod Writes
+pub mod Appends

@@ -1,11 +1,12 @@
 -- How a layer over the device ended.
-use Rattle.std.specs.Prelude.{◌≡◌, ℕ, Bool, true, false, List, [], ◌∷◌, ◌++◌, Option, Result, Ok, Err}
+use Rattle.std.specs.Prelude.{◌≡◌, ℕ, ◌-◌, Bool, true, false, List, [], ◌∷◌, ◌++◌, length, Option, option_map, Result, Ok, Err}
 use Rattle.upd_text.specs.Counts.{counted}
 use Rattle.device_model.specs.declared.calls.Event.{Event}
 use Rattle.device_model.specs.declared.calls.Event.TheVariants.{Loss}
 use Rattle.device_model.specs.declared.calls.Down.{Down}
 use Rattle.device_model.specs.declared.calls.Down.TheVariants.{Off, Fault}
 use Rattle.device_model.specs.Disk.{Disk, AddsNothing, IsTold, area_of}
+use Rattle.device_model.specs.Work.{Work, work_lost}
 use Rattle.device_model.specs.State.{State}
 
 -- whether it went through, or what cut it off
@@ -36,10 +37,18 @@ abbrev pub loss_at : Bool → List Event
 loss_at true = []
 loss_at false = Loss ∷ []
 
--- Nothing was started: at most power was lost or the disk failed, and the disk may hold nothing that it couldn't before.
+-- a work folder that no call changed: a loss of power alone takes what wasn't synced
+abbrev pub work_after : Bool → Option Work → Option Work
+work_after true work = work
+work_after false work = option_map work_lost work
+
+-- Nothing was started and the work folder wasn't changed: at most power was lost or the disk failed, and the disk may hold
+-- nothing that it couldn't before.
 pub record Waited (how : How) (old new : State) : Type 0 where
   pub ends : EndsAs how old new
   pub journal : new.journal ≡ old.journal ++ loss_at new.on
+  pub room : new.room ≡ old.room - length (loss_at new.on)
+  pub work : new.work ≡ work_after new.on old.work
   pub adds : AddsNothing old.disk new.disk
   pub told : IsTold old.disk → IsTold new.disk
 

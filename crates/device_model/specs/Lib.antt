@@ -1,5 +1,5 @@
 pub mod Disk
+pub mod Work
 pub mod State
 pub mod How
 pub mod Events
-pub mod Plain

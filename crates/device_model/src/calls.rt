@@ -106,7 +106,14 @@ pub enum Event {
     Loss,
 }
 
-/// Why a call of the disk wasn't done.
+/// A part of the work folder: the folder of a payload's module, or that of the artifact's scripts.
+#[derive(Clone, Copy, Debug, PartialEq, Eq)]
+pub enum Part {
+    Tree(u8),
+    Scripts,
+}
+
+/// Why a call of the disk or of the work folder wasn't done.
 #[derive(Clone, Copy, Debug, PartialEq, Eq)]
 pub enum Down {
     /// The device is off.
@@ -115,10 +122,24 @@ pub enum Down {
     Fault,
 }
 
+/// The device is off.
+#[derive(Clone, Copy, Debug, PartialEq, Eq)]
+pub struct Off;
+
 /// How a child ended that was no question.
 #[derive(Clone, Copy, Debug, PartialEq, Eq)]
 pub enum Ran {
     Exit(u8),
+    NotStarted,
+    /// The device is off.
+    Off,
+}
+
+/// How a question ended.
+#[derive(Drop)]
+pub enum Asked {
+    /// The exit code, and the first bytes that the child wrote.
+    Reply(u8, Text32),
     NotStarted,
     /// The device is off.
     Off,

@@ -1,6 +1,6 @@
 //! The events since power came on, with room for more that is taken at once.
 
-ghost use Rattle.std.specs.Prelude.{◌≡◌, ◌-◌, ◌<◌, [], ◌∷◌, ◌++◌, length, slice_get, Some, IfOk, IsOk, OnOk, OnErr, IsTrue, ◌↔◌};
+ghost use Rattle.std.specs.Prelude.{◌≡◌, ◌+◌, ◌-◌, ◌<◌, [], ◌∷◌, ◌++◌, length, slice_get, Some, IfOk, IsOk, OnOk, OnErr, IsTrue, ◌↔◌};
 
 use crate::calls::Event;
 use std::alloc::Global;
@@ -68,6 +68,15 @@ impl EventList {
         ensures { result ≡ self.now.room }
     {
         self.room
+    }
+
+    /// Takes out all events, which leaves room for as many more.
+    pub fn clear(&mut self)
+        ensures { self.new ≡ record { events = []; room = self.old.room + length self.old.events } }
+    {
+        let count = self.events.len() as u32;
+        self.events.truncate(0);
+        self.room += count;
     }
 
     /// Adds an event. A refusal changes nothing, and comes only where there is no room.

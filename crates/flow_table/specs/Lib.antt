@@ -1,2 +1,4 @@
 pub mod Valid
 pub mod Table
+pub mod Replies
+pub mod Laws

@@ -1,5 +1,5 @@
--- The tables of the flow: what follows a state, what follows a loss of power in it, and what an order does.
-use Rattle.std.specs.Prelude.{ℕ, ◌+◌, Bool, true, false, ◌&&◌, nat_lt, if◌then◌else◌, ⊤}
+-- The tables of the flow: what follows a state that was run, what follows a loss of power in it, and what an order does.
+use Rattle.std.specs.Prelude.{◌+◌, Bool, false, ◌&&◌, nat_lt, if◌then◌else◌, ⊤}
 use Rattle.flow_table.specs.declared.position.State.{State}
 use Rattle.flow_table.specs.declared.position.State.TheVariants.{Idle, Download, Install, Reboot, VerifyReboot, Commit, CommitLeave, Rollback, RollbackReboot, VerifyRollbackReboot, Failure, Cleanup, Wait}
 use Rattle.flow_table.specs.declared.position.Outcome.{Outcome}
@@ -16,6 +16,8 @@ use Rattle.flow_table.specs.declared.table.Order.TheVariants as order
 use Rattle.flow_table.specs.declared.table.Opening.{Opening}
 use Rattle.flow_table.specs.declared.table.Opening.TheVariants as opening
 
+-- ---- entering a state
+
 -- where a deployment begins
 abbrev pub fresh_position : Position
 fresh_position = record { state = Download; outcome = Undecided; undoable = false; reboot = No; n = 1 }
@@ -28,7 +30,7 @@ settled Committed = Committed
 settled RolledBack = RolledBack
 settled Inconsistent = Inconsistent
 
--- a state is entered, or at the limit the deployment ends
+-- a state is entered and counted; where 28 were entered already, the deployment ends in its place
 abbrev pub enter_of : Position → State → Outcome → Position
 enter_of p s o =
     if nat_lt p.n 28
@@ -39,7 +41,9 @@ enter_of p s o =
 abbrev pub undo_of : Position → Position
 undo_of p = if p.undoable then enter_of p Rollback Undecided else enter_of p Failure Inconsistent
 
--- a state fails
+-- ---- what follows a state that was run
+
+-- the state failed; no call is made at Idle and Wait, which nothing follows
 abbrev pub failed_step : State → Position → Step
 failed_step Idle p = Stop
 failed_step Download p = Enter (enter_of p Cleanup Kept)
@@ -67,7 +71,8 @@ after_rollback No p = enter_of p Failure RolledBack
 after_rollback Yes p = enter_of p RollbackReboot Undecided
 after_rollback Automatic p = enter_of p RollbackReboot Undecided
 
--- what follows a state that was run to its end; what isn't listed counts as failed
+-- The state went well, with what it hears then. All else counts as failed, also what the state can't hear; where the two
+-- columns are the same, only the one for failed has a line.
 abbrev pub next_by : State → Heard → Bool → Position → Step
 next_by Download (Undoable can) stop p = Enter (enter_of (record p { undoable = can }) Install Undecided)
 next_by Install (Needs r) stop p = Enter (after_install r p)
@@ -81,13 +86,15 @@ next_by s heard stop p = failed_step s p
 abbrev pub next_of : Position → Heard → Bool → Step
 next_of p heard stop = next_by p.state heard stop p
 
+-- ---- what follows a loss of power
+
 -- calls are made in the state
 abbrev pub IsRunning : State → Type 0
 IsRunning Idle = ⊥
 IsRunning Wait = ⊥
 IsRunning _ = ⊤
 
--- what follows a state in which the power was lost
+-- the power was lost in the state; the outcome stays where none is named
 abbrev pub lost_by : State → Position → Position
 lost_by Idle p = p
 lost_by Download p = enter_of p Cleanup Kept
@@ -106,14 +113,16 @@ lost_by Wait p = p
 abbrev pub lost_of : Position → Position
 lost_of p = lost_by p.state p
 
--- an order at Wait
+-- ---- what an order does
+
+-- at Wait
 abbrev pub at_wait : Order → Position → Opening
 at_wait order.Resume p = opening.Enter (enter_of p Commit Undecided)
 at_wait order.ResumeStop p = opening.Stay
 at_wait order.Commit p = opening.Enter (enter_of p Commit Undecided)
 at_wait order.Rollback p = opening.Enter (enter_of p Rollback Undecided)
 
--- an order at Reboot
+-- at Reboot
 abbrev pub at_reboot : Order → Position → Opening
 at_reboot order.Resume p = opening.Enter (lost_of p)
 at_reboot order.ResumeStop p = opening.Enter (lost_of p)
@@ -121,7 +130,7 @@ at_reboot order.Commit p = opening.Enter (lost_of p)
 at_reboot order.Rollback p =
     if p.undoable then opening.Enter (enter_of p Rollback Undecided) else opening.NoRollback Reboot
 
--- an order at any other state in which calls are made
+-- at any other state in which calls are made
 abbrev pub at_running : Order → Position → Opening
 at_running order.Resume p = opening.Enter (lost_of p)
 at_running order.ResumeStop p = opening.Enter (lost_of p)
@@ -132,16 +141,7 @@ abbrev pub first_by : State → Order → Position → Opening
 first_by Idle o p = opening.NoUpdate
 first_by Wait o p = at_wait o p
 first_by Reboot o p = at_reboot o p
-first_by Download o p = at_running o p
-first_by Install o p = at_running o p
-first_by VerifyReboot o p = at_running o p
-first_by Commit o p = at_running o p
-first_by CommitLeave o p = at_running o p
-first_by Rollback o p = at_running o p
-first_by RollbackReboot o p = at_running o p
-first_by VerifyRollbackReboot o p = at_running o p
-first_by Failure o p = at_running o p
-first_by Cleanup o p = at_running o p
+first_by _ o p = at_running o p
 
 -- what an order does at a position
 abbrev pub first_of : Position → Order → Opening

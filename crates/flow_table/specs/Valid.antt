@@ -8,54 +8,89 @@ use Rattle.flow_table.specs.declared.position.Reboot.{Reboot}
 use Rattle.flow_table.specs.declared.position.Reboot.TheVariants.{No}
 use Rattle.flow_table.specs.declared.position.Position.{Position}
 
-abbrev is_decided : Outcome → Bool
-is_decided Undecided = false
-is_decided _ = true
+-- ---- outcomes
 
-abbrev is_undecided : Outcome → Bool
-is_undecided o = not (is_decided o)
+abbrev decided : Outcome → Bool
+decided Undecided = false
+decided _ = true
 
-abbrev is_committed : Outcome → Bool
-is_committed Committed = true
-is_committed _ = false
+abbrev undecided : Outcome → Bool
+undecided o = not (decided o)
 
-abbrev is_undone : Outcome → Bool
-is_undone RolledBack = true
-is_undone Inconsistent = true
-is_undone _ = false
+abbrev committed : Outcome → Bool
+committed Committed = true
+committed _ = false
 
-abbrev needs_reboot : Reboot → Bool
-needs_reboot No = false
-needs_reboot _ = true
+abbrev undone : Outcome → Bool
+undone RolledBack = true
+undone Inconsistent = true
+undone _ = false
+
+-- ---- whether it can be undone, whether it reboots, how many states were entered
+
+abbrev either : Bool → Bool
+either undoable = true
+
+abbrev can : Bool → Bool
+can undoable = undoable
+
+abbrev cannot : Bool → Bool
+cannot undoable = not undoable
+
+abbrev reboots : Reboot → Bool
+reboots No = false
+reboots _ = true
+
+abbrev stays_up : Reboot → Bool
+stays_up r = not (reboots r)
+
+abbrev any : Reboot → Bool
+any r = true
+
+abbrev counted : ℕ → Bool
+counted n = nat_le 1 n && nat_le n 28
+
+abbrev exactly : ℕ → ℕ → Bool
+exactly m n = n == m
+
+-- ---- the table
+
+record Allowed : Type 0 where
+  outcome : Outcome → Bool
+  undoable : Bool → Bool
+  reboot : Reboot → Bool
+  n : ℕ → Bool
+
+abbrev row : (Outcome → Bool) → (Bool → Bool) → (Reboot → Bool) → (ℕ → Bool) → Allowed
+row o u r n = record { outcome = o; undoable = u; reboot = r; n = n }
+
+-- outcome, undoable, reboot and n of a valid position in the state
+abbrev allowed : State → Allowed
+allowed at.Idle = row decided either any counted
+allowed at.Download = row undecided cannot stays_up (exactly 1)
+allowed at.Install = row undecided either stays_up (exactly 2)
+allowed at.Reboot = row undecided either reboots counted
+allowed at.VerifyReboot = row undecided either reboots counted
+allowed at.Commit = row undecided either any counted
+allowed at.CommitLeave = row committed either any counted
+allowed at.Rollback = row undecided can any counted
+allowed at.RollbackReboot = row undecided can reboots counted
+allowed at.VerifyRollbackReboot = row undecided can reboots counted
+allowed at.Failure = row undone either any counted
+allowed at.Cleanup = row decided either any counted
+allowed at.Wait = row undecided can any counted
 
 unfoldable pub is_outcome : State → Outcome → Bool
-is_outcome at.Idle o = is_decided o
-is_outcome at.CommitLeave o = is_committed o
-is_outcome at.Failure o = is_undone o
-is_outcome at.Cleanup o = is_decided o
-is_outcome _ o = is_undecided o
+is_outcome s = (allowed s).outcome
 
 unfoldable pub is_undoable : State → Bool → Bool
-is_undoable at.Download undoable = not undoable
-is_undoable at.Rollback undoable = undoable
-is_undoable at.RollbackReboot undoable = undoable
-is_undoable at.VerifyRollbackReboot undoable = undoable
-is_undoable at.Wait undoable = undoable
-is_undoable _ undoable = true
+is_undoable s = (allowed s).undoable
 
 unfoldable pub is_reboot : State → Reboot → Bool
-is_reboot at.Download r = not (needs_reboot r)
-is_reboot at.Install r = not (needs_reboot r)
-is_reboot at.Reboot r = needs_reboot r
-is_reboot at.VerifyReboot r = needs_reboot r
-is_reboot at.RollbackReboot r = needs_reboot r
-is_reboot at.VerifyRollbackReboot r = needs_reboot r
-is_reboot _ r = true
+is_reboot s = (allowed s).reboot
 
 unfoldable pub is_count : State → ℕ → Bool
-is_count at.Download n = n == 1
-is_count at.Install n = n == 2
-is_count _ n = nat_le 1 n && nat_le n 28
+is_count s = (allowed s).n
 
 abbrev pub is_valid : Position → Bool
 is_valid p = is_outcome p.state p.outcome && is_undoable p.state p.undoable && is_reboot p.state p.reboot && is_count p.state p.n

@@ -5,6 +5,7 @@ ghost use Rattle.flow_table.specs.Table.{enter_of, undo_of, failed_step, next_of
 
 use crate::position::{Outcome, Position, Reboot, State};
 
+/// What a state heard when it was run: that it failed, that it went well, or what the module replied.
 #[derive(Clone, Copy, Debug, PartialEq, Eq)]
 pub enum Heard {
     Failed,
@@ -13,12 +14,14 @@ pub enum Heard {
     Needs(Reboot),
 }
 
+/// Another position is entered, or the device reboots and the deployment stops until then.
 #[derive(Clone, Copy, Debug, PartialEq, Eq)]
 pub enum Step {
     Enter(Position),
     Stop,
 }
 
+/// What the user orders; `ResumeStop` goes on to Wait, where the update can still be taken back.
 #[derive(Clone, Copy, Debug, PartialEq, Eq)]
 pub enum Order {
     Resume,
@@ -27,6 +30,7 @@ pub enum Order {
     Rollback,
 }
 
+/// What an order does first, or why it does nothing.
 #[derive(Clone, Copy, Debug, PartialEq, Eq)]
 pub enum Opening {
     Enter(Position),
@@ -104,7 +108,8 @@ fn failed(p: &Position) -> Step
     })
 }
 
-/// What follows a state that was run to its end.
+/// What follows a state that was run: at VerifyReboot, `stop` goes to Wait where the update can be
+/// taken back. What the state can't hear counts as failed.
 pub fn next(p: &Position, heard: Heard, stop: bool) -> Step
     ensures { result ≡ next_of p.now heard stop }
 {

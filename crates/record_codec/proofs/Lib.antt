@@ -7,3 +7,4 @@ pub mod Front
 pub mod Marks
 pub mod Found
 pub mod Whole
+pub mod Sizes

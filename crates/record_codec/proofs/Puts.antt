@@ -32,14 +32,16 @@ Puts-mid old at text back fits e = rw e record {
   rest = drop_put at (at + length text) old text (omega arith) fits (omega arith);
 }
 
+-- one item more, of which x is the text
+pub flat_map_more : {X : Type 0} (f : X → List ℕ) (xs : List X) (i : ℕ) (x : X) → i < length xs → x ≡ get_or xs i x → flat_map f (take (i + 1) xs) ≡ flat_map f (take i xs) ++ f x
+flat_map_more {X = X} f xs i x h is =
+    let one : flat_map f (x ∷ []) ≡ f x = flat_map-cons f x [] ∙ append-nil (f x) in
+    ap (flat_map f) (take_more xs i x h) ∙ flat_map-append f (take i xs) (get_or xs i x ∷ []) ∙ ap (λ (y : X). flat_map f (take i xs) ++ flat_map f (y ∷ [])) (sym is) ∙ ap (λ (t : List ℕ). flat_map f (take i xs) ++ t) one
+
 module _ {X : Type 0} (f : X → List ℕ) (xs : List X) (i : ℕ) (x : X) (h : i < length xs) (is : x ≡ get_or xs i x) (old : List ℕ) (at : ℕ) (into : List ℕ) (m : ℕ) where
   -- one item more
   pub Puts-more : (new : List ℕ) (e : ℕ) → Puts old at (flat_map f (take i xs)) into m → Puts into m (f x) new e → Puts old at (flat_map f (take (i + 1) xs)) new e
-  Puts-more new e p q =
-      let one : flat_map f (x ∷ []) ≡ f x = flat_map-cons f x [] ∙ append-nil (f x) in
-      let k : flat_map f (take (i + 1) xs) ≡ flat_map f (take i xs) ++ f x =
-      ap (flat_map f) (take_more xs i x h) ∙ flat_map-append f (take i xs) (get_or xs i x ∷ []) ∙ ap (λ (y : X). flat_map f (take i xs) ++ flat_map f (y ∷ [])) (sym is) ∙ ap (λ (t : List ℕ). flat_map f (take i xs) ++ t) one in
-      rw k (Puts-then old at (flat_map f (take i xs)) into m (f x) new e p q)
+  Puts-more new e p q = rw (flat_map_more f xs i x h is) (Puts-then old at (flat_map f (take i xs)) into m (f x) new e p q)
 
   -- there is room for it
   pub room-more : Puts old at (flat_map f (take i xs)) into m → at + length (flat_map f xs) ≤ length old → m + length (f x) ≤ length old

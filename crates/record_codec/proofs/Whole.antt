@@ -41,7 +41,7 @@ reboots_coded : AreCoded reboot_byte 0 reboots
 unfolding reboot_byte
 reboots_coded = (refl, (refl, (refl, tt)))
 
-position_found : (r : Rest) (x : Position × Rest) → IsBytes r.bytes → position_at r ≡ Ok x → Found (position_bytes x.0) r x.1 × IsTrue (is_valid x.0)
+pub position_found : (r : Rest) (x : Position × Rest) → IsBytes r.bytes → position_at r ≡ Ok x → Found (position_bytes x.0) r x.1 × IsTrue (is_valid x.0)
 unfolding position_at position_bytes
 position_found r x fits e =
     let a = bind_ok (choice_at states any r) _ x e in

@@ -1,6 +1,6 @@
 //! The scripts of one place.
 
-ghost use Rattle.std.specs.Prelude.{◌≡◌, ℕ, List, length, map, IfOk};
+ghost use Rattle.std.specs.Prelude.{◌≡◌, ◌≤◌, length};
 ghost use Rattle.std.specs.Iterator.{YieldsFirstRef, item_count};
 ghost use Rattle.script_names.specs.Scripts.{due_of, is_at};
 ghost use Rattle.script_names.specs.Left.{left};
@@ -24,7 +24,8 @@ fn is_at(script: &ScriptName, place: Place) -> bool
 
 /// The scripts of the place, in byte order.
 pub fn due<'a>(scripts: &'a ScriptList, place: Place) -> DueNames<'a>
-    ensures { left result ≡ due_of place scripts.now }
+    ensures names { left result ≡ due_of place scripts.now }
+    ensures few { length (left result) ≤ 64 }
 {
     DueNames {
         rest: scripts.as_slice(),

@@ -8,7 +8,10 @@ ghost use Rattle.upd_text.specs.Order.{is_below};
 ghost use Rattle.std.specs.Prelude.{◌==◌};
 ghost use Rattle.script_names.specs.Scripts.{place_of, stages, actions, named, is_end, AreScripts, is_artifact_script, last_script};
 
+mod adding;
+
 use crate::place::{Action, Place, Stage};
+pub use adding::AddFault;
 use std::alloc::Global;
 use std::marker::Model;
 use upd_text::{Name, NoMemory};

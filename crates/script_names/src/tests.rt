@@ -1,4 +1,4 @@
-use crate::{Action, Place, ScriptList, ScriptName, Stage, due};
+use crate::{Action, AddFault, Place, ScriptList, ScriptName, Stage, due};
 use std::alloc::Global;
 use std::test::Fail;
 use upd_text::Name;
@@ -95,5 +95,46 @@ fn due_in_order(rt: HostRuntime) -> Result<(), Fail> {
     assert!(rt; list.at(3).name().bytes() == texts[3].as_bytes());
     assert!(rt; listed(rt.alloc(), &[texts[1], texts[0]]).is_none());
     assert!(rt; listed(rt.alloc(), &[texts[1], texts[1]]).is_none());
+    Ok(())
+}
+
+#[test]
+fn scripts_are_added_in_order(rt: HostRuntime) -> Result<(), Fail> {
+    let mut list = ScriptList::new(rt.alloc());
+    let rows = [
+        ("ArtifactInstall_Enter_05_b", Ok(())),
+        ("ArtifactInstall_Enter_10", Ok(())),
+        ("ArtifactInstall_Enter_05_a", Ok(())),
+        ("ArtifactInstall_Enter_10", Err(AddFault::Doubled)),
+        ("ArtifactInstall_Enter_05_b", Err(AddFault::Doubled)),
+        ("ArtifactCommit_Leave_99", Ok(())),
+    ];
+    for (text, wanted) in &rows {
+        let script = script(text).ok_or("no script")?;
+        assert_eq!(rt; list.add(script), *wanted, "at {text}");
+    }
+    let order = [
+        "ArtifactCommit_Leave_99",
+        "ArtifactInstall_Enter_05_a",
+        "ArtifactInstall_Enter_05_b",
+        "ArtifactInstall_Enter_10",
+    ];
+    assert_eq!(rt; list.len(), 4);
+    for (held, text) in list.as_slice().iter().zip(&order) {
+        assert_eq!(rt; held.name().bytes(), text.as_bytes());
+    }
+    Ok(())
+}
+
+#[test]
+fn no_more_than_64_are_added(rt: HostRuntime) -> Result<(), Fail> {
+    let mut list = ScriptList::new(rt.alloc());
+    for k in 0..66u32 {
+        let text = format!(in rt.alloc(); "Download_Enter_{}", 99 - k)?;
+        let script = script(text.as_str()).ok_or("no script")?;
+        let wanted = if k < 64 { Ok(()) } else { Err(AddFault::Full) };
+        assert_eq!(rt; list.add(script), wanted, "at {text}");
+    }
+    assert_eq!(rt; list.len(), 64);
     Ok(())
 }

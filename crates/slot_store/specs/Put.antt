@@ -1,12 +1,12 @@
 -- Putting an entry at another position.
-use Rattle.std.specs.Prelude.{◌≡◌, ◌⊎◌, ℕ, ◌≤◌, List, [], ◌++◌, length, take, Option, IfSome, ⊤}
+use Rattle.std.specs.Prelude.{◌≡◌, ◌⊎◌, ℕ, ◌-◌, ◌≤◌, List, [], ◌++◌, length, take, Option, IfSome, ⊤}
 use Rattle.flow_table.specs.declared.position.Position.{Position}
 use Rattle.record_codec.specs.declared.entry.Db.{Db}
 use Rattle.record_codec.specs.declared.entry.Db.TheVariants.{Empty, Full}
 use Rattle.record_codec.specs.Spelling.{record_of, IsRight, IfFull}
 use Rattle.device_model.specs.Disk.{Disk, MayHold, IsTold}
 use Rattle.device_model.specs.State.{State}
-use Rattle.device_model.specs.How.{How, EndsAs, loss_at}
+use Rattle.device_model.specs.How.{How, EndsAs, loss_at, work_after}
 use Rattle.slot_store.specs.Slots.{IsAt, IsOf, picked_slot}
 use Rattle.slot_store.specs.Mount.{Kept}
 
@@ -35,10 +35,12 @@ pub record IsHeld (slot : List ℕ) (size : ℕ) (db : Db) : Type 0 where
 abbrev pub BeginsWith : List ℕ → List ℕ → Type 0
 BeginsWith front bytes = take (length front) bytes ≡ front
 
--- nothing was started: at most power was lost or the disk failed
+-- nothing was started and the work folder wasn't changed: at most power was lost or the disk failed
 pub record Wrote (how : How) (old new : State) : Type 0 where
   pub ends : EndsAs how old new
   pub journal : new.journal ≡ old.journal ++ loss_at new.on
+  pub room : new.room ≡ old.room - length (loss_at new.on)
+  pub work : new.work ≡ work_after new.on old.work
   pub told : IsTold old.disk → IsTold new.disk
 
 -- an area that the disk may hold, with this slot picked

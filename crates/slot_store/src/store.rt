@@ -2,7 +2,9 @@
 
 ghost use Rattle.std.specs.Prelude.{◌≡◌, ◌≤◌, true, length, IfOk, OnOk, IsTrue};
 ghost use Rattle.flow_table.specs.Valid.{is_valid};
-ghost use Rattle.record_codec.specs.Spelling.{IsRight, IsFound, IfFull};
+ghost use Rattle.record_codec.specs.Spelling.{IsRight, IsFound, IfFull, record_length};
+ghost use Rattle.device_model.specs.Disk.{KeepsDisk};
+ghost use Rattle.device_model.specs.State.{EndsSync};
 ghost use Rattle.device_model.specs.How.{Waited, how_of};
 ghost use Rattle.slot_store.specs.Slots.{IsOf, OldOrNew, Sound};
 ghost use Rattle.slot_store.specs.Mount.{mount_how, MountEnds, ReadEnds};
@@ -11,7 +13,7 @@ ghost use Rattle.slot_store.specs.Put.{IsFull, moved, record_in, Wrote, IsPut};
 use crate::writing::{replace, start_of};
 use device_model::{Device, Down};
 use flow_table::Position;
-use record_codec::{Db, DecodeFault, decode, encode_into, patch};
+use record_codec::{Db, DecodeFault, Entry, decode, encode_into, patch};
 use std::alloc::Global;
 use std::marker::Model;
 use upd_text::NoMemory;
@@ -56,6 +58,7 @@ impl Store {
     pub fn mount<D: Device>(alloc: Global, device: &mut D) -> Result<Store, MountFault>
         requires on { (D.means device.old).on ≡ true }
         requires room { 1 ≤ (D.means device.old).room }
+        ensures plan { D.plan device.new ≡ D.plan device.old }
         ensures waited { Waited (mount_how result) (D.means device.old) (D.means device.new) }
         ensures ends { MountEnds (D.means device.old) result (D.means device.new) }
     {
@@ -113,6 +116,17 @@ impl Store {
         &self.slot[..self.size as usize]
     }
 
+    /// Takes another entry in place of what is there, and writes nothing. Conditions: the entry is right, and its record
+    /// fits a slot.
+    pub fn load(&mut self, entry: Entry)
+        requires right { IsRight entry }
+        requires fits { record_length entry ≤ 131072 }
+        ensures { self.new ≡ record self.old { db = Db.Full entry } }
+    {
+        self.size = encode_into(&entry, &mut self.slot);
+        self.db = Db::Full(entry);
+    }
+
     /// Takes the entry to a position, and writes nothing.
     fn take_to(&mut self, position: &Position)
         requires entry { IsFull self.old.db }
@@ -131,6 +145,7 @@ impl Store {
         requires entry { IsFull self.old.db }
         requires valid { IsTrue (is_valid position.now) }
         requires of { IsOf self.old.picked (D.means device.old).disk }
+        ensures plan { D.plan device.new ≡ D.plan device.old }
         ensures wrote { Wrote (how_of result) (D.means device.old) (D.means device.new) }
         ensures ok { OnOk result (IsPut (moved position.now self.old.db) self.new (D.means device.old) (D.means device.new)) }
         ensures any { OldOrNew (moved position.now self.old.db) (D.means device.old).disk (D.means device.new).disk }
@@ -161,16 +176,28 @@ fn zeros(alloc: Global, count: usize) -> Result<Vec<u8>, NoMemory>
     Ok(vec![in alloc; 0u8; count]?)
 }
 
+/// Syncs, so that nothing may be lost any more.
+fn settle<D: Device>(device: &mut D) -> Result<(), Down>
+    requires on { (D.means device.old).on ≡ true }
+    requires room { 1 ≤ (D.means device.old).room }
+    ensures plan { D.plan device.new ≡ D.plan device.old }
+    ensures ends { EndsSync (D.means device.old) result (D.means device.new) }
+    ensures leaves { KeepsDisk (D.means device.old).disk (D.means device.new).disk }
+{
+    device.disk_sync()
+}
+
 /// Syncs, and reads the slot that byte 0 of the area picks. It answers which one.
 fn read_picked<D: Device>(device: &mut D, slot: &mut [u8]) -> Result<u8, Down>
     requires on { (D.means device.old).on ≡ true }
     requires room { 1 ≤ (D.means device.old).room }
     requires whole { length slot.old ≡ 131072 }
+    ensures plan { D.plan device.new ≡ D.plan device.old }
     ensures waited { Waited (how_of result) (D.means device.old) (D.means device.new) }
     ensures ends { ReadEnds (D.means device.old) result slot.new (D.means device.new) }
     ensures picked { IfOk result (λ picked. picked ≤ 1) }
 {
-    match device.disk_sync() {
+    match settle(device) {
         Ok(()) => {}
         Err(down) => return Err(down),
     }

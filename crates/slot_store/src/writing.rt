@@ -23,6 +23,7 @@ fn write_synced<D: Device>(device: &mut D, at: u32, bytes: &[u8]) -> Result<(), 
     requires on { (D.means device.old).on ≡ true }
     requires room { 1 ≤ (D.means device.old).room }
     requires range { at + length bytes.now ≤ AREA }
+    ensures plan { D.plan device.new ≡ D.plan device.old }
     ensures wrote { Wrote (how_of result) (D.means device.old) (D.means device.new) }
     ensures ok { OnOk result (D.means device.new ≡ after_sync (after_write at bytes.now (D.means device.old))) }
     ensures leaves { ChangesOnly at (length bytes.now) (D.means device.old).disk (D.means device.new).disk }
@@ -41,6 +42,7 @@ pub fn replace<D: Device>(device: &mut D, picked: u8, bytes: &[u8]) -> Result<()
     requires picked { picked ≤ 1 }
     requires fits { length bytes.now ≤ 131072 }
     requires of { IsOf picked (D.means device.old).disk }
+    ensures plan { D.plan device.new ≡ D.plan device.old }
     ensures wrote { Wrote (how_of result) (D.means device.old) (D.means device.new) }
     ensures picks { Picks bytes.now (D.means device.old).disk (D.means device.new).disk }
     ensures ok { OnOk result (IsReplaced (1 - picked) bytes.now (D.means device.old) (D.means device.new)) }

@@ -1,19 +1,23 @@
-use Rattle.std.proofs.Common.{◌≡◌, ◌∙◌, sym, ap}
-use Rattle.client_top.specs.declared.status.Command.TheVariants.{Resume}
-use Rattle.client_top.specs.Boot.{is_plain}
-use Rattle.client_top.proofs.Dids.{did-unread, did-not-mount}
-use Rattle.client_top.proofs.Resumes.{did-went-on}
+use Rattle.std.proofs.Common.{sym, subst}
+use Rattle.record_codec.specs.declared.entry.Db.TheVariants.{Empty}
+use Rattle.client_top.specs.Obeyed.{IsAsked}
+use Rattle.client_top.proofs.Dids.{did-not-mount, not-mounted-tells}
+use Rattle.client_top.proofs.Resumes.{did-went-on, went-on-tells}
 use Rattle.client_top.proofs.act.resume.Goals as goal
 
-pub returns-then-is_plain-clause-did : goal.returns-then-is_plain-clause-did
-returns-then-is_plain-clause-did g c =
-    did-went-on c.in-Ok.store (g.D.Device.means c.args.device.now) (g.D.Device.means c.mount.new.device) (g.D.Device.means c.go_on.new.device) c.in-Ok.ensures.waited c.in-Ok.ensures.ends
-    (sym (c.is_plain.ensures ∙ ap is_plain c.db.ensures.value) ∙ c.if-is_plain.true) c.go_on.result c.go_on.ensures
+pub returns-in-Ok-clause-acted : goal.returns-in-Ok-clause-acted
+returns-in-Ok-clause-acted g c =
+    let mid = g.D.Device.means c.mount.new.device in
+    let new = g.D.Device.means c.go_on.new.device in
+    λ asked faults is. record {
+      from = c.in-Ok.store.db;
+      shows = went-on-tells c.in-Ok.store.db c.go_on.result mid new c.go_on.ensures.went;
+      did = did-went-on asked is faults c.in-Ok.store (g.D.Device.means c.args.device.now) mid new c.in-Ok.ensures.waited c.in-Ok.ensures.ends c.go_on.result c.go_on.ensures.went;
+    }
 
-pub returns-else-is_plain-clause-did : goal.returns-else-is_plain-clause-did
-returns-else-is_plain-clause-did g c =
-    did-unread Resume c.in-Ok.store (g.D.Device.means c.args.device.now) (g.D.Device.means c.mount.new.device) c.in-Ok.ensures.waited c.in-Ok.ensures.ends (sym (c.is_plain.ensures ∙ ap is_plain c.db.ensures.value) ∙ c.if-is_plain.false)
-
-pub returns-in-Err-clause-did : goal.returns-in-Err-clause-did
-returns-in-Err-clause-did g c = rw c.not_mounted.ensures
-    (did-not-mount Resume c.in-Err.fault (g.D.Device.means c.args.device.now) (g.D.Device.means c.mount.new.device) c.in-Err.ensures.waited c.in-Err.ensures.ends)
+pub returns-in-Err-clause-acted : goal.returns-in-Err-clause-acted
+returns-in-Err-clause-acted g c = λ asked faults is. rw c.not_mounted.ensures (record {
+  from = Empty;
+  shows = not-mounted-tells c.in-Err.fault;
+  did = did-not-mount asked (subst IsAsked (sym is) tt) faults c.in-Err.fault (g.D.Device.means c.args.device.now) (g.D.Device.means c.mount.new.device) c.in-Err.ensures.waited c.in-Err.ensures.ends;
+})

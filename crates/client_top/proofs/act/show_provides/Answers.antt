@@ -1,17 +1,19 @@
-use Rattle.std.proofs.Common.{◌≡◌, ◌∙◌, sym, ap}
-use Rattle.client_top.specs.declared.status.Command.TheVariants.{ShowProvides}
-use Rattle.client_top.specs.Boot.{is_plain}
-use Rattle.client_top.proofs.Dids.{did-show, did-unread, did-not-mount}
+use Rattle.std.proofs.Common.{refl, sym, subst}
+use Rattle.record_codec.specs.declared.entry.Db.TheVariants.{Empty}
+use Rattle.client_top.specs.Obeyed.{IsAsked}
+use Rattle.client_top.proofs.Dids.{did-show, did-not-mount, not-mounted-tells}
 use Rattle.client_top.proofs.act.show_provides.Goals as goal
 
-pub returns-then-is_plain-clause-did : goal.returns-then-is_plain-clause-did
-returns-then-is_plain-clause-did g c =
-    did-show c.in-Ok.store (g.D.Device.means c.args.device.now) (g.D.Device.means c.mount.new.device) c.in-Ok.ensures.waited c.in-Ok.ensures.ends (sym (c.is_plain.ensures ∙ ap is_plain c.db.ensures.value) ∙ c.if-is_plain.true)
+pub returns-in-Ok-clause-acted : goal.returns-in-Ok-clause-acted
+returns-in-Ok-clause-acted g c = λ asked faults is. record {
+  from = c.in-Ok.store.db;
+  shows = refl;
+  did = did-show asked c.in-Ok.store (g.D.Device.means c.args.device.now) (g.D.Device.means c.mount.new.device) c.in-Ok.ensures.waited c.in-Ok.ensures.ends faults is;
+}
 
-pub returns-else-is_plain-clause-did : goal.returns-else-is_plain-clause-did
-returns-else-is_plain-clause-did g c =
-    did-unread ShowProvides c.in-Ok.store (g.D.Device.means c.args.device.now) (g.D.Device.means c.mount.new.device) c.in-Ok.ensures.waited c.in-Ok.ensures.ends (sym (c.is_plain.ensures ∙ ap is_plain c.db.ensures.value) ∙ c.if-is_plain.false)
-
-pub returns-in-Err-clause-did : goal.returns-in-Err-clause-did
-returns-in-Err-clause-did g c = rw c.not_mounted.ensures
-    (did-not-mount ShowProvides c.in-Err.fault (g.D.Device.means c.args.device.now) (g.D.Device.means c.mount.new.device) c.in-Err.ensures.waited c.in-Err.ensures.ends)
+pub returns-in-Err-clause-acted : goal.returns-in-Err-clause-acted
+returns-in-Err-clause-acted g c = λ asked faults is. rw c.not_mounted.ensures (record {
+  from = Empty;
+  shows = not-mounted-tells c.in-Err.fault;
+  did = did-not-mount asked (subst IsAsked (sym is) tt) faults c.in-Err.fault (g.D.Device.means c.args.device.now) (g.D.Device.means c.mount.new.device) c.in-Err.ensures.waited c.in-Err.ensures.ends;
+})

@@ -27,7 +27,7 @@ returns-then-not-module_ended-clause-drove g c =
     let cleanup : c.args.position.state ≡ Cleanup = in-cleanup c.args.position c.is_idle.result c.requires.ending c.is_idle.ensures c.if-is_idle.false in
     drives-lost c.in-Full.entry c.args.store.now.db (sym c.db.ensures.value ∙ c.in-Full.is) c.args.position c.put.new.self old mid
     c.in-Ok.ensures.wrote c.in-Ok.ensures.any c.in-Ok.ensures.sound c.in-Ok.ensures.ok new cleanup
-    (called-lost c.cleanup_call-call.result (cleaning c.in-Full.entry) c.module_ended.result mid new c.cleanup_call-call.ensures.call c.if-not-module_ended.true c.module_ended.ensures)
+    (called-lost c.cleanup_call-call.result (cleaning c.in-Full.entry) c.module_ended.result mid new c.cleanup_call-call.ensures.call c.if-not-module_ended.true c.module_ended.ensures.called)
 
 pub returns-in-Ok-put-clause-drove : goal.returns-in-Ok-put-clause-drove
 returns-in-Ok-put-clause-drove g c =
@@ -38,7 +38,7 @@ returns-in-Ok-put-clause-drove g c =
     let cleanup : c.args.position.state ≡ Cleanup = in-cleanup c.args.position c.is_idle.result c.requires.ending c.is_idle.ensures c.if-is_idle.false in
     drives-cleaned c.in-Full.entry c.args.store.now.db (sym c.db.ensures.value ∙ c.in-Full.is) c.args.position c.put.new.self old mid
     c.in-Ok.ensures.wrote c.in-Ok.ensures.any c.in-Ok.ensures.sound c.in-Ok.ensures.ok cleanup child new
-    (called-ended c.cleanup_call-call.result (cleaning c.in-Full.entry) c.module_ended.result mid child c.cleanup_call-call.ensures.call c.if-not-module_ended.false c.module_ended.ensures)
+    (called-ended c.cleanup_call-call.result (cleaning c.in-Full.entry) c.module_ended.result mid child c.cleanup_call-call.ensures.call c.if-not-module_ended.false c.module_ended.ensures.called)
     c.put.new.self.db c.in-Ok.ensures.ok.db
     (subst (λ (q : Position). OldOrNew (moved q c.put.new.self.db) child.disk new.disk) c.finished.ensures.is c.in-Ok-put.ensures.any) c.in-Ok-put.ensures.sound
     c.put-2.new.self c.in-Ok-put.ensures.wrote (subst (λ (q : Position). IsPut (moved q c.put.new.self.db) c.put-2.new.self child new) c.finished.ensures.is c.in-Ok-put.ensures.ok)
@@ -52,7 +52,7 @@ returns-in-Err-put-clause-drove g c =
     let cleanup : c.args.position.state ≡ Cleanup = in-cleanup c.args.position c.is_idle.result c.requires.ending c.is_idle.ensures c.if-is_idle.false in
     rw c.cut_off-in-Err-put.ensures (drives-last-cut c.in-Full.entry c.args.store.now.db (sym c.db.ensures.value ∙ c.in-Full.is) c.args.position c.put.new.self old mid
     c.in-Ok.ensures.wrote c.in-Ok.ensures.any c.in-Ok.ensures.sound c.in-Ok.ensures.ok cleanup child new
-    (called-ended c.cleanup_call-call.result (cleaning c.in-Full.entry) c.module_ended.result mid child c.cleanup_call-call.ensures.call c.if-not-module_ended.false c.module_ended.ensures)
+    (called-ended c.cleanup_call-call.result (cleaning c.in-Full.entry) c.module_ended.result mid child c.cleanup_call-call.ensures.call c.if-not-module_ended.false c.module_ended.ensures.called)
     c.put.new.self.db c.in-Ok.ensures.ok.db
     (subst (λ (q : Position). OldOrNew (moved q c.put.new.self.db) child.disk new.disk) c.finished.ensures.is c.in-Err-put.ensures.any) c.in-Err-put.ensures.sound
     c.in-Err-put.down c.in-Err-put.ensures.wrote)

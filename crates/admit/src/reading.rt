@@ -1,0 +1,198 @@
+//! The bytes of files.
+
+ghost use Rattle.std.specs.Prelude.{◌≡◌, ◌≤◌, ◌<◌, ◌^◌, ◌-◌, ◌+◌, length, take, IfOk, IfSome, OnOk};
+ghost use Rattle.manifest_sums.specs.Message.{Has};
+ghost use Rattle.sha2.specs.Sha256.{sha256};
+ghost use Rattle.io_model.specs.Source.{Tree, count_of, bytes_at, IsLength};
+ghost use Rattle.admit.specs.Told.{When};
+ghost use Rattle.admit.specs.Answers.{Stops};
+ghost use Rattle.admit.specs.Table.{heads_of, IsShortAt, AreIn};
+ghost use Rattle.admit.specs.Kept.{IsKept};
+
+use crate::stop::Stop;
+use crate::table::{Head, Places};
+use io_model::Source;
+use manifest_sums::{Sum, Summing};
+use std::alloc::{AllocError, Global};
+
+/// The texts that are read once, and kept for their sums and their fields.
+#[derive(Drop)]
+pub(crate) struct Kept {
+    pub places: Places,
+    pub version: Vec<u8>,
+    pub header_info: Vec<u8>,
+    pub type_info: Vec<u8>,
+}
+
+pub(crate) fn zeros(alloc: Global, count: usize) -> Result<Vec<u8>, AllocError>
+    ensures { IfOk result (λ z. length z.items ≡ count) }
+{
+    vec![in alloc; 0; count]
+}
+
+/// One more piece of a file, at its place in the buffer.
+fn read_piece<S: Source>(source: &mut S, i: u32, at: usize, into: &mut [u8]) -> Result<usize, Stop>
+    requires file { i < count_of (S.content source.old) }
+    requires room { at < length into.old }
+    requires long { IsLength (S.content source.old) i (length into.old) }
+    ensures same { S.content source.new ≡ S.content source.old }
+    ensures plan { S.plan source.new ≡ S.plan source.old }
+    ensures stops { Stops (S.faults source.old) result (S.faults source.new) }
+    ensures some { IfOk result (λ n. 0 < n) }
+    ensures most { IfOk result (λ n. at + n ≤ length into.old) }
+    ensures next { IfOk result (λ n. When (S.content source.old) (λ t. take at into.old ≡ take at (bytes_at t i)) → When (S.content source.old) (λ t. take (at + n) into.new ≡ take (at + n) (bytes_at t i))) }
+{
+    let n = source.read(i, at as u64, &mut into[at..])?;
+    Ok(n)
+}
+
+/// All bytes of a file, into a buffer of its length.
+fn fill<S: Source>(source: &mut S, i: u32, into: &mut [u8]) -> Result<(), Stop>
+    requires file { i < count_of (S.content source.old) }
+    requires long { IsLength (S.content source.old) i (length into.old) }
+    ensures same { S.content source.new ≡ S.content source.old }
+    ensures plan { S.plan source.new ≡ S.plan source.old }
+    ensures stops { Stops (S.faults source.old) result (S.faults source.new) }
+    ensures bytes { OnOk result (When (S.content source.old) (λ t. into.new ≡ bytes_at t i)) }
+{
+    let mut at: usize = 0;
+    while at < into.len() {
+        let n = read_piece(source, i, at, into)?;
+        at += n;
+    }
+    Ok(())
+}
+
+/// All bytes of a file of at most 65,536 bytes.
+pub(crate) fn read_file<S: Source>(
+    alloc: Global,
+    source: &mut S,
+    heads: &[Head],
+    i: u32,
+) -> Result<Vec<u8>, Stop>
+    requires short { IsShortAt heads.now i }
+    requires count { length heads.now ≡ count_of (S.content source.old) }
+    requires heads { When (S.content source.old) (λ t. heads.now ≡ heads_of t) }
+    ensures same { S.content source.new ≡ S.content source.old }
+    ensures plan { S.plan source.new ≡ S.plan source.old }
+    ensures stops { Stops (S.faults source.old) result (S.faults source.new) }
+    ensures few { IfOk result (λ bytes. length bytes.items ≤ 65536) }
+    ensures bytes { IfOk result (λ bytes. When (S.content source.old) (λ t. bytes.items ≡ bytes_at t i)) }
+{
+    let size = heads[i as usize].length;
+    let mut bytes = zeros(alloc, size as usize)?;
+    fill(source, i, bytes.as_mut_slice())?;
+    Ok(bytes)
+}
+
+/// The texts but the manifest.
+pub(crate) fn read_texts<S: Source>(
+    alloc: Global,
+    source: &mut S,
+    heads: &[Head],
+    places: Places,
+) -> Result<Kept, Stop>
+    requires short { AreIn heads.now places }
+    requires count { length heads.now ≡ count_of (S.content source.old) }
+    requires heads { When (S.content source.old) (λ t. heads.now ≡ heads_of t) }
+    ensures same { S.content source.new ≡ S.content source.old }
+    ensures plan { S.plan source.new ≡ S.plan source.old }
+    ensures stops { Stops (S.faults source.old) result (S.faults source.new) }
+    ensures places { IfOk result (λ kept. kept.places ≡ places) }
+    ensures texts { IfOk result (λ kept. When (S.content source.old) (λ t. IsKept t kept)) }
+{
+    let version = read_file(alloc, source, heads, places.version)?;
+    let header_info = read_file(alloc, source, heads, places.header_info)?;
+    let type_info = read_file(alloc, source, heads, places.type_info)?;
+    Ok(Kept {
+        places,
+        version,
+        header_info,
+        type_info,
+    })
+}
+
+impl Kept {
+    /// The bytes of a file, where they are kept.
+    pub(crate) fn text_of(&self, i: u32) -> Option<&[u8]>
+        ensures { IfSome result (λ text. (t : Tree) → IsKept t self.now → text.now ≡ bytes_at t i) }
+    {
+        if i == self.places.version {
+            return Some(self.version.as_slice());
+        }
+        if i == self.places.header_info {
+            return Some(self.header_info.as_slice());
+        }
+        if i == self.places.type_info {
+            return Some(self.type_info.as_slice());
+        }
+        None
+    }
+}
+
+fn least(left: u64, room: usize) -> usize
+    requires { 0 < left }
+    ensures most { result ≤ left }
+    ensures fits { result ≤ room }
+    ensures some { 0 < room → 0 < result }
+{
+    if left < room as u64 {
+        left as usize
+    } else {
+        room
+    }
+}
+
+/// One more piece of a file, into the sum.
+fn sum_piece<S: Source>(
+    source: &mut S,
+    i: u32,
+    at: u64,
+    left: u64,
+    summing: &mut Summing,
+    buffer: &mut [u8],
+) -> Result<usize, Stop>
+    requires file { i < count_of (S.content source.old) }
+    requires room { 0 < length buffer.old }
+    requires left { 0 < left }
+    requires part { When (S.content source.old) (λ t. at + left ≤ length (bytes_at t i)) }
+    ensures same { S.content source.new ≡ S.content source.old }
+    ensures plan { S.plan source.new ≡ S.plan source.old }
+    ensures stops { Stops (S.faults source.old) result (S.faults source.new) }
+    ensures some { IfOk result (λ n. 0 < n) }
+    ensures most { IfOk result (λ n. n ≤ left) }
+    ensures next { IfOk result (λ n. When (S.content source.old) (λ t. Has summing.old (take at (bytes_at t i))) → When (S.content source.old) (λ t. Has summing.new (take (at + n) (bytes_at t i)))) }
+{
+    let want = least(left, buffer.len());
+    let n = source.read(i, at, &mut buffer[..want])?;
+    summing.piece(&buffer[..n]);
+    Ok(n)
+}
+
+/// The sum of a file, read in pieces.
+pub(crate) fn sum_file<S: Source>(source: &mut S, i: u32, buffer: &mut [u8]) -> Result<Sum, Stop>
+    requires file { i < count_of (S.content source.old) }
+    requires room { 0 < length buffer.old }
+    ensures same { S.content source.new ≡ S.content source.old }
+    ensures plan { S.plan source.new ≡ S.plan source.old }
+    ensures stops { Stops (S.faults source.old) result (S.faults source.new) }
+    ensures sum { IfOk result (λ sum. When (S.content source.old) (λ t. sum ≡ sha256 (bytes_at t i))) }
+{
+    let size = source.length(i)?;
+    let mut summing = Summing::new();
+    let mut at: u64 = 0;
+    while at < size {
+        let n = sum_piece(source, i, at, size - at, &mut summing, buffer)?;
+        at += n as u64;
+    }
+    Ok(summing.finish())
+}
+
+/// The sum of a text that was read.
+pub(crate) fn sum_text(text: &[u8]) -> Sum
+    ensures { result ≡ sha256 text.now }
+{
+    let mut summing = Summing::new();
+    summing.piece(text);
+    summing.finish()
+}

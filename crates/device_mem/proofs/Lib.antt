@@ -1,0 +1,4 @@
+pub mod Appending
+pub mod Losing
+pub mod Played
+pub mod Tearing

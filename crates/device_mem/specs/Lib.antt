@@ -1,0 +1,10 @@
+pub mod Acts
+pub mod Fits
+pub mod Folders
+pub mod Log
+pub mod Losses
+pub mod Mem
+pub mod MemState
+pub mod Parts
+pub mod Script
+pub mod Tears

@@ -1,0 +1,19 @@
+//! A device in memory, whose answers, losses and faults are planned.
+#![tactic(auto)]
+
+mod area;
+mod bytes;
+mod calls;
+mod device;
+mod disk;
+mod folder;
+mod log;
+mod script;
+#[cfg(test)]
+mod tests;
+mod work;
+
+pub use area::AreaBytes;
+pub use device::MemDevice;
+pub use script::{AnswerList, LossAt, LossList, Plan, Script, Tear};
+pub use work::{WorkFile, WorkList};

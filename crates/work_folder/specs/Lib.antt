@@ -1,0 +1,4 @@
+pub mod Rows
+pub mod Folder
+pub mod Prepare
+pub mod Adding
