@@ -96,13 +96,26 @@ pub fn read_start<R: Files>(rt: &R, path: &str, into: &mut [u8]) -> io::Result<u
 
 /// The names in a folder, without `.` and `..`, in no order. They are bytes and need not be text.
 pub fn names_in<R: Files>(rt: &R, alloc: Global, folder: &str) -> io::Result<Vec<Vec<u8>>> {
-    let mut all = Vec::new(alloc);
-    rt.open_dir(folder)?.read_to_end(&mut all)?;
+    let mut dir = rt.open_dir(folder)?;
     let mut names = Vec::new(alloc);
-    for name in all.as_slice().split(|b| *b == 0) {
+    // a folder is read by whole names, so there must be room for the longest at each read
+    let mut some = [0u8; 4_096];
+    for _ in 0..u64::MAX {
+        let count = dir.read(&mut some)?;
+        if count == 0 {
+            break;
+        }
+        add_each(&mut names, alloc, &some[..count])?;
+    }
+    Ok(names)
+}
+
+/// Adds the names, each of which has a zero behind it.
+fn add_each(names: &mut Vec<Vec<u8>>, alloc: Global, bytes: &[u8]) -> io::Result<()> {
+    for name in bytes.split(|b| *b == 0) {
         if !name.is_empty() && name != b".".as_slice() && name != b"..".as_slice() {
             names.push(Vec::from_slice(alloc, name)?)?;
         }
     }
-    Ok(names)
+    Ok(())
 }

@@ -102,6 +102,16 @@ fn trees_of_real_files_are_weighed(rt: HostRuntime) -> Result<(), Fail> {
         ),
         ("touch tree/data/0000/more", "rm tree/data/0000/more", 1),
         (
+            "for i in 1 2 3 4 5 6 7 8 9; do touch \"tree/data/0000/$i-$(printf %0200d 0)\"; done",
+            "rm tree/data/0000/?-*",
+            1,
+        ),
+        (
+            "i=0; while [ $i -lt 900 ]; do : > tree/data/0000/file-$i; i=$((i + 1)); done",
+            "rm tree/data/0000/file-*",
+            1,
+        ),
+        (
             "mkdir tree/data/0000/empty",
             "rmdir tree/data/0000/empty",
             0,
