@@ -1,7 +1,8 @@
 #!/bin/sh
 # Times `prepare` of a payload of one file, copied in pieces of 65,536 bytes from a source in memory into the device in
-# memory, beside `cp` and `sha256sum` of a file of that size in the same run. `rt try` makes a slow build, so the first
-# figure is an upper bound. Run by hand; the gate doesn't call it. usage: bench/prepare.sh [MEBIBYTES]
+# memory, beside `cp` and `sha256sum` of a file of that size in the same run. It proves and builds a small program over
+# copies of the crates, which takes some minutes where they weren't built before. Run by hand; the gate doesn't call it.
+# usage: bench/prepare.sh [MEBIBYTES]
 set -e
 top=$(cd "$(dirname "$0")/.." && pwd)
 size=${1:-100}
@@ -17,6 +18,10 @@ echo "prepare_bench: $below" >> "$work/crates.txt"
 cat > "$work/crates/prepare_bench/src/main.rt" <<PROGRAM
 // Times prepare over memory.
 #![tactic(auto)]
+
+ghost use Rattle.std.specs.Prelude.{IfSome};
+ghost use Rattle.device_mem.specs.Mem.{state_of};
+ghost use Rattle.work_folder.specs.Prepare.{IsReady};
 
 use admit::admit;
 use device_mem::{AnswerList, AreaBytes, LossList, MemDevice, Script};
@@ -46,6 +51,13 @@ fn add(files: &mut FileList, text: &mut Vec<u8>, path: &[u8], bytes: &[u8]) -> O
     text.extend_from_slice(b"  ").ok()?;
     text.extend_from_slice(path).ok()?;
     text.extend_from_slice(b"\n").ok()?;
+    push(files, path, bytes)
+}
+
+fn push(files: &mut FileList, path: &[u8], bytes: &[u8]) -> Option<()> {
+    if bytes.len() >= 0x1_0000_0000 {
+        return None;
+    }
     files.push(path, bytes).ok()
 }
 
@@ -61,8 +73,23 @@ fn tree(alloc: Global) -> Option<FileList> {
         payload.extend_from_slice(&piece).ok()?;
     }
     add(&mut files, &mut text, b"data/0000/app.bin", payload.as_slice())?;
-    files.push(b"manifest", text.as_slice()).ok()?;
+    push(&mut files, b"manifest", text.as_slice())?;
     Some(files)
+}
+
+fn device_of(alloc: Global) -> Option<MemDevice>
+    ensures { IfSome result (λ d. IsReady (state_of d)) }
+{
+    let script = Script {
+        answers: AnswerList::new(alloc),
+        supports: Answer::Exit(0),
+        needs: Answer::Exit(0),
+        losses: LossList::new(alloc),
+        cuts: CallList::new(alloc),
+        faults: CallList::new(alloc),
+        meddle: false,
+    };
+    MemDevice::new(alloc, AreaBytes::zeros(alloc).ok()?, 10, script).ok()
 }
 
 fn run(alloc: Global, rt: &HostRuntime) -> Option<u128> {
@@ -75,16 +102,7 @@ fn run(alloc: Global, rt: &HostRuntime) -> Option<u128> {
     let Ok(admitted) = admit(alloc, &mut source, &site, &held) else {
         return None;
     };
-    let script = Script {
-        answers: AnswerList::new(alloc),
-        supports: Answer::Exit(0),
-        needs: Answer::Exit(0),
-        losses: LossList::new(alloc),
-        cuts: CallList::new(alloc),
-        faults: CallList::new(alloc),
-        meddle: false,
-    };
-    let mut device = MemDevice::new(alloc, AreaBytes::zeros(alloc).ok()?, 10, script).ok()?;
+    let mut device = device_of(alloc)?;
     let mut buffer = [0u8; 65536];
     let start = Instant::now(rt).ok()?;
     prepare(&mut device, &mut source, &admitted, &site, &held, &mut buffer).ok()?;
@@ -100,7 +118,8 @@ fn main(rt: HostRuntime) -> io::Result<()> {
     Ok(())
 }
 PROGRAM
-(cd "$work/crates/prepare_bench" && rt try)
+(cd "$work/crates/prepare_bench" && rt run) > "$work/log" 2>&1 || { tail -n 20 "$work/log" >&2; exit 1; }
+grep "^prepare" "$work/log"
 head -c "$((size * 1048576))" /dev/zero | tr '\0' 'Z' > "$work/file"
 python3 - "$work/file" <<'PYTHON'
 import subprocess, sys, time
