@@ -1,5 +1,6 @@
 #!/usr/bin/env python3
-"""Times `show-provides` over the largest record and over one of 75 bytes, beside /bin/true in the same run. Run it by hand.
+"""Times `show-provides` over the largest record and over one of 75 bytes, beside a `cat` of each text and beside /bin/true in the
+same run. Run it by hand.
 
 usage: bench/show_provides.py [PROGRAM] [RUNS]
 It prints the median time of a run in milliseconds, and the peak of memory where GNU time is installed.
@@ -82,6 +83,9 @@ def main():
             make_data(folder, stored)
             shown = [program, "show-provides"]
             print(f"{name:10} median {median_time(count, shown, folder):8.3f} ms   peak {peak_memory(shown, folder)}")
+            with open(os.path.join(folder, "text"), "wb") as text:
+                subprocess.run(shown, cwd=folder, stdout=text, check=True)
+            print(f"  cat      median {median_time(count, ['cat', 'text'], folder):8.3f} ms")
     with tempfile.TemporaryDirectory() as folder:
         print(f"/bin/true  median {median_time(count, ['/bin/true'], folder):8.3f} ms   peak {peak_memory(['/bin/true'], folder)}")
 

@@ -1,4 +1,11 @@
+pub mod Names
+pub mod Placed
 pub mod Rows
+pub mod Infos
+pub mod Payloads
+pub mod Provided
+pub mod Right
+pub mod FirstCause
 pub mod Pieces
 pub mod Wants
 pub mod TableLemmas
@@ -6,3 +13,5 @@ pub mod ScriptLemmas
 pub mod LinesLemmas
 pub mod BroughtLemmas
 pub mod IsOfLemmas
+pub mod Readings
+pub mod Spared

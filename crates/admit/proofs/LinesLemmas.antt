@@ -12,11 +12,11 @@ use Rattle.manifest_sums.specs.Manifest.{manifest_of}
 use Rattle.manifest_sums.specs.declared.manifest.Line.{Line}
 use Rattle.manifest_sums.specs.declared.manifest.ManifestFault.{ManifestFault}
 use Rattle.manifest_sums.proofs.SpellingLemmas.{manifest_text}
-use Rattle.admit.specs.Paths.{is_manifest}
+use Rattle.admit.specs.Places.{place_of, is_manifest}
 use Rattle.admit.specs.Table.{unless, has_path}
 use Rattle.admit.specs.Admit.{refuse_manifest, line_has, has_line, unlisted_path, not_listed, number_of, absent, lines_of}
 use Rattle.admit.specs.IsOf.{HasLine}
-use Rattle.admit.specs.declared.table.Head.{Head}
+use Rattle.admit.specs.Table.{FileHead}
 use Rattle.admit.specs.declared.lines.Listing.{Listing}
 use Rattle.admit.specs.declared.refusal.Refusal.TheVariants.{NotListed, Absent}
 use Rattle.admit.proofs.TableLemmas.{bind_ok, unless_ok, map_none, all_none, IsPlace, is_place}
@@ -37,18 +37,18 @@ zip_weaker R Q (x ∷ xs) (y ∷ ys) f z = (f x y z.0, zip_weaker R Q xs ys f z.
 
 -- ---- lines and their numbers
 
-number_is : (heads : List Head) (line : Line) (n : ℕ) → number_of heads line ≡ Some n → IsPlace heads line.path n
-number_is heads line n h = elim (is_manifest line.path) as (λ b. cond b None (position (has_path line.path) heads) ≡ Some n → IsPlace heads line.path n) [
+number_is : (heads : List FileHead) (line : Line) (n : ℕ) → number_of heads line ≡ Some n → IsPlace heads line.path n
+number_is heads line n h = elim (is_manifest (place_of line.path)) as (λ b. cond b None (position (has_path line.path) heads) ≡ Some n → IsPlace heads line.path n) [
   | true ↦ (λ e. absurd cc)
   | false ↦ is_place heads line.path n
 ] h
 
-zipped_at : (heads : List Head) (line : Line) (lines : List Line) (o : Option ℕ) (rest : List ℕ) → ((n : ℕ) → o ≡ Some n → IsPlace heads line.path n) → (find (λ l. is_none (number_of heads l)) lines ≡ None → AllZip (λ l n. IsPlace heads l.path n) lines rest)
+zipped_at : (heads : List FileHead) (line : Line) (lines : List Line) (o : Option ℕ) (rest : List ℕ) → ((n : ℕ) → o ≡ Some n → IsPlace heads line.path n) → (find (λ l. is_none (number_of heads l)) lines ≡ None → AllZip (λ l n. IsPlace heads l.path n) lines rest)
     → cond (is_none o) (Some line) (find (λ l. is_none (number_of heads l)) lines) ≡ None → AllZip (λ l n. IsPlace heads l.path n) (line ∷ lines) (cons_option o rest)
 zipped_at heads line lines None rest is more h = absurd cc
 zipped_at heads line lines (Some n) rest is more h = (is n refl, more h)
 
-zipped : (heads : List Head) (lines : List Line) → find (λ line. is_none (number_of heads line)) lines ≡ None → AllZip (λ line n. IsPlace heads line.path n) lines (filter_map (number_of heads) lines)
+zipped : (heads : List FileHead) (lines : List Line) → find (λ line. is_none (number_of heads line)) lines ≡ None → AllZip (λ line n. IsPlace heads line.path n) lines (filter_map (number_of heads) lines)
 zipped heads [] h = tt
 zipped heads (line ∷ lines) h = zipped_at heads line lines (number_of heads line) (filter_map (number_of heads) lines) (number_is heads line) (zipped heads lines) h
 
@@ -56,7 +56,7 @@ find_none : (o : Option Line) → option_map (λ line. Absent line.path) o ≡ N
 find_none None h = refl
 find_none (Some line) h = absurd cc
 
-pub record Listed (heads : List Head) (l : Listing) : Type 0 where
+pub record Listed (heads : List FileHead) (l : Listing) : Type 0 where
   pub lines : not_listed l.manifest heads ≡ None
   pub places : AllZip (λ line n. IsPlace heads line.path n) l.manifest l.numbers
   pub distinct : AllPairs (λ a b. a.path ≢ b.path) l.manifest
@@ -69,7 +69,7 @@ right_lines bytes (Ok found) lines is h =
     ((manifest_text bytes lines).0 read).right.distinct
 right_lines bytes (Err fault) lines is h = absurd cc
 
-pub listed : (heads : List Head) (bytes : List ℕ) (l : Listing) → lines_of heads bytes ≡ Ok l → Listed heads l
+pub listed : (heads : List FileHead) (bytes : List ℕ) (l : Listing) → lines_of heads bytes ≡ Ok l → Listed heads l
 unfolding lines_of absent
 listed heads bytes l h =
     let a = bind_ok (refuse_manifest (manifest_of bytes)) _ l h in
@@ -86,7 +86,7 @@ listed heads bytes l h =
     }
 
 -- as many numbers as lines
-pub numbered : (heads : List Head) (bytes : List ℕ) (l : Listing) → lines_of heads bytes ≡ Ok l → length l.numbers ≡ length l.manifest
+pub numbered : (heads : List FileHead) (bytes : List ℕ) (l : Listing) → lines_of heads bytes ≡ Ok l → length l.numbers ≡ length l.manifest
 numbered heads bytes l h = AllZip-long (λ line n. IsPlace heads line.path n) l.manifest l.numbers (listed heads bytes l h).places
 
 -- ---- files and their lines
@@ -100,26 +100,26 @@ pub or_true : (a b : Bool) → a || b ≡ true → (a ≡ true) ⊎ (b ≡ true)
 or_true true b h = inl refl
 or_true false b h = inr h
 
-pub has_line_at : (heads : List Head) (lines : List Line) (path : List ℕ) (n : ℕ) (d : Head) → not_listed lines heads ≡ None → n < length heads → (get_or heads n d).path ≡ Some path → (is_manifest path ≡ true) ⊎ HasLine path lines
+pub has_line_at : (heads : List FileHead) (lines : List Line) (path : List ℕ) (n : ℕ) (d : FileHead) → not_listed lines heads ≡ None → n < length heads → (get_or heads n d).path ≡ Some path → (is_manifest (place_of path) ≡ true) ⊎ HasLine path lines
 unfolding not_listed
 has_line_at heads lines path n d h lt here =
-    let none : unlisted_path lines (get_or heads n d).path ≡ None = all_none (λ (head : Head). unlisted_path lines head.path) heads (map_none NotListed _ h) n d lt in
+    let none : unlisted_path lines (get_or heads n d).path ≡ None = all_none (λ (head : FileHead). unlisted_path lines head.path) heads (map_none NotListed _ h) n d lt in
     let e : unlisted_path lines (Some path) ≡ None = ap (unlisted_path lines) (sym here) ∙ none in
-    elim (either (is_manifest path) (has_line lines path) path e) [
+    elim (either (is_manifest (place_of path)) (has_line lines path) path e) [
       | inl m ↦ inl m
       | inr t ↦ (let a = Any-from_list_any (line_has path) lines t in inr (a.0, a.1, a.2, a.3, (bytes_eq-Decides a.1.path path).0 a.4))
     ]
 
 -- a file but the manifest has a line
-pub line_of_file : (heads : List Head) (lines : List Line) (path : List ℕ) (n : ℕ) (d : Head) → not_listed lines heads ≡ None → is_manifest path ≡ false → n < length heads → (get_or heads n d).path ≡ Some path → HasLine path lines
+pub line_of_file : (heads : List FileHead) (lines : List Line) (path : List ℕ) (n : ℕ) (d : FileHead) → not_listed lines heads ≡ None → is_manifest (place_of path) ≡ false → n < length heads → (get_or heads n d).path ≡ Some path → HasLine path lines
 line_of_file heads lines path n d h other lt here = elim (has_line_at heads lines path n d h lt here) [
   | inl m ↦ (absurd (both_ways _ other m))
   | inr t ↦ t
 ]
 
-pub header_line : (heads : List Head) (lines : List Line) (path : List ℕ) (n : ℕ) → not_listed lines heads ≡ None → is_manifest path ≡ false → IsPlace heads path n → HasLine path lines
+pub header_line : (heads : List FileHead) (lines : List Line) (path : List ℕ) (n : ℕ) → not_listed lines heads ≡ None → is_manifest (place_of path) ≡ false → IsPlace heads path n → HasLine path lines
 header_line heads lines path n h other p =
-    let none : Head = record { path = None; length = 0 } in
+    let none : FileHead = record { path = None; length = 0 } in
     line_of_file heads lines path n none h other p.within (p.here none)
 
 has_itself : (path : List ℕ) (found : Option (List ℕ)) (length : ℕ) → found ≡ Some path → has_path path (record { path = found; length = length }) ≡ true
@@ -127,7 +127,7 @@ has_itself path None len h = absurd cc
 has_itself path (Some name) len h = let e : name ≡ path = cc in (bytes_eq-Decides name path).1 e
 
 -- a line's number is that of each file with its path
-pub number_there : (heads : List Head) (path : List ℕ) (m n : ℕ) (d : Head) → IsPlace heads path m → n < length heads → (get_or heads n d).path ≡ Some path → list_any (has_path path) (take n heads) ≡ false → m ≡ n
+pub number_there : (heads : List FileHead) (path : List ℕ) (m n : ℕ) (d : FileHead) → IsPlace heads path m → n < length heads → (get_or heads n d).path ≡ Some path → list_any (has_path path) (take n heads) ≡ false → m ≡ n
 number_there heads path m n d p lt here fresh = elim (cases_lt m n) [
   | inl less ↦ (
       let long : length (take n heads) ≡ n = length-take-le n heads (omega arith) in

@@ -1,20 +1,16 @@
 -- The scripts of a tree.
-use Rattle.std.proofs.Common.{◌≡◌, ◌∙◌, ℕ, ◌+◌, ◌≤◌, ◌&&◌, Bool, true, false, cond, eqb, ltb, List, length, Option, Some, None, Ok, Err, refl, sym, ap, arith}
-use Rattle.std.specs.Prelude.{fold, position}
+use Rattle.std.proofs.Common.{◌≡◌, ℕ, ◌+◌, ◌≤◌, true, false, cond, ltb, List, length, Option, Some, None, refl, arith}
+use Rattle.std.specs.Prelude.{fold}
 use Rattle.std.specs.List.{All, cons_option}
 use Rattle.std.specs.BTreeSet.{insert_key}
 use Rattle.std.proofs.lemmas.Bool.Decides.{nat_tests}
-use Rattle.upd_text.specs.Text.{name_of, unless_bad, is_bad}
 use Rattle.upd_text.specs.Order.{byte_cmp}
-use Rattle.upd_text.specs.declared.fault.NameFault.{NameFault}
-use Rattle.upd_text.specs.declared.fault.NameFault.TheVariants.{Empty, TooLong}
 use Rattle.std.specs.Option.{is_some}
-use Rattle.std.specs.Result.{is_ok}
 use Rattle.script_names.specs.declared.place.Place.{Place}
 use Rattle.script_names.specs.Scripts.{is_artifact_script, is_artifact_place, place_of}
 use Rattle.script_names.proofs.Inserted.{length-insert_key}
-use Rattle.admit.specs.Admit.{script_names, is_brought, bad_script, bad_script_name, too_many_scripts, with_script}
-use Rattle.admit.specs.declared.table.Head.{Head}
+use Rattle.admit.specs.Admit.{script_names, bad_script, bad_script_name, too_many_scripts, with_script}
+use Rattle.admit.specs.Table.{FileHead}
 use Rattle.admit.specs.declared.refusal.Refusal.{Refusal}
 use Rattle.admit.specs.declared.refusal.Refusal.TheVariants.{BadScriptName}
 use Rattle.admit.proofs.TableLemmas.{none_at_all}
@@ -25,13 +21,13 @@ few_from n refusal h = elim (ltb 64 n) as (λ b. b ≡ ltb 64 n → cond b (Some
   | false ↦ (λ e k. grind (arith, nat_tests))
 ] refl h
 
-pub few_scripts : (heads : List Head) → too_many_scripts heads ≡ None → length (script_names heads) ≤ 64
+pub few_scripts : (heads : List FileHead) → too_many_scripts heads ≡ None → length (script_names heads) ≤ 64
 unfolding too_many_scripts
 few_scripts heads h = few_from (length (script_names heads)) _ h
 
-pub good_scripts : (heads : List Head) → bad_script_name heads ≡ None → All (λ (head : Head). bad_script head.path ≡ None) heads
+pub good_scripts : (heads : List FileHead) → bad_script_name heads ≡ None → All (λ (head : FileHead). bad_script head.path ≡ None) heads
 unfolding bad_script_name
-good_scripts heads h = none_at_all BadScriptName (λ (head : Head). bad_script head.path) heads h
+good_scripts heads h = none_at_all BadScriptName (λ (head : FileHead). bad_script head.path) heads h
 
 -- ---- one more script
 
@@ -42,22 +38,6 @@ fold_next (Some name) names rest = refl
 pub length_next : (o : Option (List ℕ)) (names rest : List (List ℕ)) → length (with_script names o) + length rest ≤ length names + length (cons_option o rest)
 length_next None names rest = omega arith
 length_next (Some name) names rest = omega (arith, length-insert_key names name)
-
--- ---- names
-
-same_name_at : (a b : Bool) (p : Option ℕ) (x y : NameFault) (bytes name : List ℕ) → cond a (Err x) (cond b (Err y) (unless_bad bytes p)) ≡ Ok name → name ≡ bytes
-same_name_at true b p x y bytes name h = absurd cc
-same_name_at false true p x y bytes name h = absurd cc
-same_name_at false false (Some i) x y bytes name h = absurd cc
-same_name_at false false None x y bytes name h = cc
-
--- a name has the bytes that it was read from
-pub same_name : (bytes name : List ℕ) → name_of bytes ≡ Ok name → name ≡ bytes
-unfolding name_of
-same_name bytes name h = same_name_at (eqb (length bytes) 0) (ltb 128 (length bytes)) (position is_bad bytes) Empty TooLong bytes name h
-
-pub brought_is : (bytes name : List ℕ) → name_of bytes ≡ Ok name → is_brought bytes ≡ is_artifact_script name
-brought_is bytes name h = ap (λ r. is_ok r && is_artifact_script bytes) h ∙ ap is_artifact_script (sym (same_name bytes name h))
 
 no_place : (o : Option Place) → is_some o ≡ false → is_artifact_place o ≡ false
 no_place None h = refl

@@ -2,10 +2,12 @@
 use Rattle.std.specs.Prelude.{◌≡◌, ◌≢◌, ◌⊎◌, ℕ, ◌<◌, ◌↔◌, ◌++◌, List, length, codes, Some, AllPairs}
 use Rattle.std.specs.List.{All, AllPass, Any, AllZip, Contains}
 use Rattle.io_model.specs.Source.{Content, count_of, path_at}
+use Rattle.artifact_meta.specs.Header.{AreKinds}
 use Rattle.manifest_sums.specs.declared.manifest.Line.{Line}
 use Rattle.script_names.specs.Scripts.{is_artifact_script}
 use Rattle.admit.specs.Told.{When}
-use Rattle.admit.specs.Paths.{is_allowed}
+use Rattle.admit.specs.Places.{place_of, is_allowed, spelled}
+use Rattle.admit.specs.declared.place.TreePlace.TheVariants.{TypeInfo}
 use Rattle.admit.specs.declared.admitted.Admitted.{Admitted}
 
 abbrev pub HasLine : List ℕ → List Line → Type 0
@@ -17,10 +19,13 @@ pub record IsOf (content : Content) (admitted : Admitted) : Type 0 where
   pub below : All (λ n. n < count_of content) admitted.numbers
   -- no path stands twice
   pub distinct : AllPairs (λ a b. a.path ≢ b.path) admitted.manifest
+  -- as many payloads as there may be, and what is said of each
+  pub kinds : AreKinds admitted.header.kinds
+  pub infos : length admitted.infos ≡ length admitted.header.kinds
   -- only allowed paths, and the files of the header among them
-  pub allowed : AllPass (λ line. is_allowed line.path) admitted.manifest
+  pub allowed : AllPass (λ line. is_allowed (place_of line.path)) admitted.manifest
   pub header_info : HasLine (codes "header/header-info") admitted.manifest
-  pub type_info : HasLine (codes "header/headers/0000/type-info") admitted.manifest
+  pub type_infos : (k : ℕ) → k < length admitted.header.kinds → HasLine (spelled (TypeInfo k)) admitted.manifest
   -- its scripts are the files under `header/scripts/`, and all of them are such as an artifact may bring
   pub scripts : AllPass is_artifact_script admitted.scripts
   pub script_names : (name : List ℕ) → Contains admitted.scripts name ↔ HasLine (codes "header/scripts/" ++ name) admitted.manifest

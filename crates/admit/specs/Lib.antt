@@ -1,8 +1,12 @@
 pub mod Told
-pub mod Paths
+pub mod Places
 pub mod Table
 pub mod Admit
 pub mod Answers
 pub mod IsOf
 pub mod Change
 pub mod Kept
+pub mod Given
+pub mod Differing
+pub mod Texts
+pub mod Causes

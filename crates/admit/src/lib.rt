@@ -4,19 +4,26 @@
 mod admitted;
 mod chain;
 mod fields;
+mod laws;
 mod lines;
-mod paths;
+mod place;
 mod reading;
 mod refusal;
 mod scripts;
 mod stop;
 mod sums;
 mod table;
+mod text;
 
 pub use admitted::Admitted;
-pub use chain::admit;
+pub use chain::{admit, admit_head};
+pub use laws::{
+    listed_sums_are_right, places_are_spelled, spelled_places, the_first_cause_is_told,
+};
 pub use lines::NumberList;
+pub use place::{TreePlace, payload_name, place_of};
 pub use refusal::{AdmitFault, Differs, Refusal, Which};
+pub use sums::{PayloadFault, sum_payloads};
 
 #[cfg(test)]
 mod tests;

@@ -7,7 +7,7 @@ ghost use Rattle.admit.specs.Answers.{Gives, Own, IsCause};
 ghost use Rattle.admit.specs.Admit.{has_line, unlisted_path, not_listed, number_of, absent, lines_of, refuse_manifest};
 ghost use Rattle.manifest_sums.specs.Manifest.{manifest_of};
 
-use crate::paths::is_manifest;
+use crate::place::place_of;
 use crate::refusal::{AdmitFault, Refusal};
 use crate::table::{Head, place_in};
 use manifest_sums::{Line, Manifest, ManifestFault, read_manifest};
@@ -33,8 +33,8 @@ fn has_line(lines: &[Line], path: &[u8]) -> bool
 fn unlisted_path<'a>(lines: &[Line], head: &'a Head) -> Option<&'a Name>
     ensures { option_copied result ≡ unlisted_path lines.now head.now.path }
 {
-    let path = head.path.as_ref()?;
-    if is_manifest(path.bytes()) || has_line(lines, path.bytes()) {
+    let path = head.path()?;
+    if head.place().is_manifest() || has_line(lines, path.bytes()) {
         return None;
     }
     Some(path)
@@ -59,7 +59,7 @@ fn number_of(heads: &[Head], line: &Line) -> Option<u32>
     ensures value { result ≡ number_of heads.now line.now }
     ensures bound { IfSome result (λ n. n < length heads.now) }
 {
-    if is_manifest(line.path.bytes()) {
+    if place_of(&line.path).is_manifest() {
         return None;
     }
     let i = place_in(heads, line.path.bytes())?;

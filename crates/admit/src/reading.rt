@@ -1,19 +1,31 @@
 //! The bytes of files.
 
-ghost use Rattle.std.specs.Prelude.{◌≡◌, ◌≤◌, ◌<◌, ◌^◌, ◌-◌, ◌+◌, length, take, IfOk, IfSome, OnOk};
+ghost use Rattle.std.specs.Prelude.{◌≡◌, ◌≤◌, ◌<◌, ◌^◌, ◌-◌, ◌+◌, ℕ, length, take, IfOk, IfSome, IsSome, OnOk};
 ghost use Rattle.manifest_sums.specs.Message.{Has};
 ghost use Rattle.sha2.specs.Sha256.{sha256};
-ghost use Rattle.io_model.specs.Source.{Tree, count_of, bytes_at, IsLength};
+ghost use Rattle.io_model.specs.Source.{Tree, Counts, count_of, bytes_at, IsLength};
 ghost use Rattle.admit.specs.Told.{When};
 ghost use Rattle.admit.specs.Answers.{Stops};
-ghost use Rattle.admit.specs.Table.{heads_of, IsShortAt, AreIn};
-ghost use Rattle.admit.specs.Kept.{IsKept};
+ghost use Rattle.admit.specs.Table.{heads_of, info_in, IsShortAt, AreIn};
+ghost use Rattle.io_model.specs.Reading.{OnlyOf};
+ghost use Rattle.upd_text.specs.Told.{WhereTold};
+ghost use Rattle.admit.specs.Kept.{IsInfoAt, AreInfos, IsKept};
+ghost use Rattle.admit.specs.Given.{ReadsPiece, ReadsFile, OnlyInfos, NoneBut};
 
 use crate::stop::Stop;
 use crate::table::{Head, Places};
-use io_model::Source;
+use io_model::{Source, SourceFault};
 use manifest_sums::{Sum, Summing};
 use std::alloc::{AllocError, Global};
+use upd_text::ListOf;
+
+/// The type-info of a payload, which is the file with this number.
+#[derive(Drop)]
+pub(crate) struct InfoText {
+    pub payload: u8,
+    pub number: u32,
+    pub text: Vec<u8>,
+}
 
 /// The texts that are read once, and kept for their sums and their fields.
 #[derive(Drop)]
@@ -21,7 +33,7 @@ pub(crate) struct Kept {
     pub places: Places,
     pub version: Vec<u8>,
     pub header_info: Vec<u8>,
-    pub type_info: Vec<u8>,
+    pub type_infos: ListOf<InfoText>,
 }
 
 pub(crate) fn zeros(alloc: Global, count: usize) -> Result<Vec<u8>, AllocError>
@@ -37,6 +49,7 @@ fn read_piece<S: Source>(source: &mut S, i: u32, at: usize, into: &mut [u8]) -> 
     requires long { IsLength (S.content source.old) i (length into.old) }
     ensures same { S.content source.new ≡ S.content source.old }
     ensures plan { S.plan source.new ≡ S.plan source.old }
+    ensures given { ReadsPiece i result (S.given source.old) (S.given source.new) }
     ensures stops { Stops (S.faults source.old) result (S.faults source.new) }
     ensures some { IfOk result (λ n. 0 < n) }
     ensures most { IfOk result (λ n. at + n ≤ length into.old) }
@@ -52,6 +65,7 @@ fn fill<S: Source>(source: &mut S, i: u32, into: &mut [u8]) -> Result<(), Stop>
     requires long { IsLength (S.content source.old) i (length into.old) }
     ensures same { S.content source.new ≡ S.content source.old }
     ensures plan { S.plan source.new ≡ S.plan source.old }
+    ensures given { WhereTold (OnlyOf i) (S.given source.old) (S.given source.new) }
     ensures stops { Stops (S.faults source.old) result (S.faults source.new) }
     ensures bytes { OnOk result (When (S.content source.old) (λ t. into.new ≡ bytes_at t i)) }
 {
@@ -75,14 +89,68 @@ pub(crate) fn read_file<S: Source>(
     requires heads { When (S.content source.old) (λ t. heads.now ≡ heads_of t) }
     ensures same { S.content source.new ≡ S.content source.old }
     ensures plan { S.plan source.new ≡ S.plan source.old }
+    ensures given { WhereTold (OnlyOf i) (S.given source.old) (S.given source.new) }
     ensures stops { Stops (S.faults source.old) result (S.faults source.new) }
     ensures few { IfOk result (λ bytes. length bytes.items ≤ 65536) }
     ensures bytes { IfOk result (λ bytes. When (S.content source.old) (λ t. bytes.items ≡ bytes_at t i)) }
 {
-    let size = heads[i as usize].length;
+    let size = heads[i as usize].length();
     let mut bytes = zeros(alloc, size as usize)?;
     fill(source, i, bytes.as_mut_slice())?;
     Ok(bytes)
+}
+
+/// The text of a file, where it is a type-info.
+fn read_info<S: Source>(
+    alloc: Global,
+    source: &mut S,
+    heads: &[Head],
+    i: u32,
+) -> Result<Option<InfoText>, Stop>
+    requires within { i < length heads.now }
+    requires short { IsSome (info_in heads.now i) → IsShortAt heads.now i }
+    requires count { length heads.now ≡ count_of (S.content source.old) }
+    requires heads { When (S.content source.old) (λ t. heads.now ≡ heads_of t) }
+    ensures same { S.content source.new ≡ S.content source.old }
+    ensures plan { S.plan source.new ≡ S.plan source.old }
+    ensures given { WhereTold (OnlyInfos heads.now) (S.given source.old) (S.given source.new) }
+    ensures stops { Stops (S.faults source.old) result (S.faults source.new) }
+    ensures text { IfOk result (λ info. When (S.content source.old) (λ t. IsInfoAt t i info)) }
+{
+    let Some(payload) = heads[i as usize].place().info() else {
+        return Ok(None);
+    };
+    let text = read_file(alloc, source, heads, i)?;
+    Ok(Some(InfoText {
+        payload,
+        number: i,
+        text,
+    }))
+}
+
+/// The type-infos that are there, in the tree's order.
+fn read_infos<S: Source>(
+    alloc: Global,
+    source: &mut S,
+    heads: &[Head],
+) -> Result<ListOf<InfoText>, Stop>
+    requires few { length heads.now < 2 ^ 32 }
+    requires short { (i : ℕ) → IsSome (info_in heads.now i) → IsShortAt heads.now i }
+    requires count { length heads.now ≡ count_of (S.content source.old) }
+    requires heads { When (S.content source.old) (λ t. heads.now ≡ heads_of t) }
+    ensures same { S.content source.new ≡ S.content source.old }
+    ensures plan { S.plan source.new ≡ S.plan source.old }
+    ensures given { WhereTold (OnlyInfos heads.now) (S.given source.old) (S.given source.new) }
+    ensures stops { Stops (S.faults source.old) result (S.faults source.new) }
+    ensures texts { IfOk result (λ infos. When (S.content source.old) (λ t. AreInfos t infos)) }
+{
+    let mut infos = ListOf::new(alloc);
+    for i in 0..heads.len() as u32 {
+        if let Some(info) = read_info(alloc, source, heads, i)? {
+            infos.push(info)?;
+        }
+    }
+    Ok(infos)
 }
 
 /// The texts but the manifest.
@@ -92,23 +160,25 @@ pub(crate) fn read_texts<S: Source>(
     heads: &[Head],
     places: Places,
 ) -> Result<Kept, Stop>
+    requires few { length heads.now < 2 ^ 32 }
     requires short { AreIn heads.now places }
     requires count { length heads.now ≡ count_of (S.content source.old) }
     requires heads { When (S.content source.old) (λ t. heads.now ≡ heads_of t) }
     ensures same { S.content source.new ≡ S.content source.old }
     ensures plan { S.plan source.new ≡ S.plan source.old }
+    ensures given { WhereTold (NoneBut heads.now places) (S.given source.old) (S.given source.new) }
     ensures stops { Stops (S.faults source.old) result (S.faults source.new) }
     ensures places { IfOk result (λ kept. kept.places ≡ places) }
     ensures texts { IfOk result (λ kept. When (S.content source.old) (λ t. IsKept t kept)) }
 {
     let version = read_file(alloc, source, heads, places.version)?;
     let header_info = read_file(alloc, source, heads, places.header_info)?;
-    let type_info = read_file(alloc, source, heads, places.type_info)?;
+    let type_infos = read_infos(alloc, source, heads)?;
     Ok(Kept {
         places,
         version,
         header_info,
-        type_info,
+        type_infos,
     })
 }
 
@@ -123,8 +193,10 @@ impl Kept {
         if i == self.places.header_info {
             return Some(self.header_info.as_slice());
         }
-        if i == self.places.type_info {
-            return Some(self.type_info.as_slice());
+        for info in self.type_infos.as_slice() {
+            if i == info.number {
+                return Some(info.text.as_slice());
+            }
         }
         None
     }
@@ -151,14 +223,15 @@ fn sum_piece<S: Source>(
     left: u64,
     summing: &mut Summing,
     buffer: &mut [u8],
-) -> Result<usize, Stop>
+) -> Result<usize, SourceFault>
     requires file { i < count_of (S.content source.old) }
     requires room { 0 < length buffer.old }
     requires left { 0 < left }
     requires part { When (S.content source.old) (λ t. at + left ≤ length (bytes_at t i)) }
     ensures same { S.content source.new ≡ S.content source.old }
     ensures plan { S.plan source.new ≡ S.plan source.old }
-    ensures stops { Stops (S.faults source.old) result (S.faults source.new) }
+    ensures given { ReadsPiece i result (S.given source.old) (S.given source.new) }
+    ensures counts { Counts (S.faults source.old) result (S.faults source.new) }
     ensures some { IfOk result (λ n. 0 < n) }
     ensures most { IfOk result (λ n. n ≤ left) }
     ensures next { IfOk result (λ n. When (S.content source.old) (λ t. Has summing.old (take at (bytes_at t i))) → When (S.content source.old) (λ t. Has summing.new (take (at + n) (bytes_at t i)))) }
@@ -170,20 +243,31 @@ fn sum_piece<S: Source>(
 }
 
 /// The sum of a file, read in pieces.
-pub(crate) fn sum_file<S: Source>(source: &mut S, i: u32, buffer: &mut [u8]) -> Result<Sum, Stop>
+#[tactic(auto, using(io_model::proofs::Readings::given_none, io_model::proofs::Readings::given_more, io_model::proofs::Readings::gave_nothing, io_model::proofs::Readings::gave_of, io_model::proofs::Readings::none_at_all))]
+pub(crate) fn sum_file<S: Source>(
+    source: &mut S,
+    i: u32,
+    buffer: &mut [u8],
+) -> Result<Sum, SourceFault>
     requires file { i < count_of (S.content source.old) }
     requires room { 0 < length buffer.old }
     ensures same { S.content source.new ≡ S.content source.old }
     ensures plan { S.plan source.new ≡ S.plan source.old }
-    ensures stops { Stops (S.faults source.old) result (S.faults source.new) }
+    ensures given { ReadsFile (S.content source.old) i result (S.given source.old) (S.given source.new) }
+    ensures counts { Counts (S.faults source.old) result (S.faults source.new) }
     ensures sum { IfOk result (λ sum. When (S.content source.old) (λ t. sum ≡ sha256 (bytes_at t i))) }
 {
-    let size = source.length(i)?;
+    let size = match source.length(i) {
+        Ok(size) => size,
+        Err(SourceFault) => return Err(SourceFault),
+    };
     let mut summing = Summing::new();
     let mut at: u64 = 0;
     while at < size {
-        let n = sum_piece(source, i, at, size - at, &mut summing, buffer)?;
-        at += n as u64;
+        match sum_piece(source, i, at, size - at, &mut summing, buffer) {
+            Ok(n) => at += n as u64,
+            Err(SourceFault) => return Err(SourceFault),
+        }
     }
     Ok(summing.finish())
 }

@@ -4,6 +4,7 @@ ghost use Rattle.std.specs.Prelude.{◌≡◌};
 
 use crate::stop::Stop;
 use artifact_meta::MetaFault;
+use io_model::SourceFault;
 use manifest_sums::{ManifestFault, Sum};
 use upd_text::{Name, NoMemory};
 
@@ -24,8 +25,8 @@ pub struct Differs {
     pub found: Sum,
 }
 
-/// Why a tree isn't admitted, in the order in which the causes are tried. Indexes of files count
-/// from 0.
+/// Why a tree isn't admitted, in the order in which the causes are tried, but for the last two.
+/// Indexes of files and payloads count from 0.
 #[derive(Drop)]
 pub enum Refusal {
     /// The tree has this many files, and more than 256.
@@ -50,17 +51,25 @@ pub enum Refusal {
     SumDiffers(Differs),
     /// The file `version` isn't that of a Mender artifact of version 3.
     BadVersion,
-    /// The first fault of header-info, then of type-info, then that their types differ.
-    Meta(MetaFault),
+    /// The fault of header-info, with payload 0; or of the type-info of this payload, with which
+    /// it differs in the type where nothing else is wrong: the first payload with one.
+    Meta(MetaFault, u32),
     /// This path under `header/scripts/` isn't that of a script that an artifact may bring: the
     /// first such in byte order.
     BadScriptName(Name),
     /// There are this many scripts, and more than 64.
     TooManyScripts(u32),
-    /// What is wanted of this key isn't met: the first such of header-info, then of type-info.
+    /// What is wanted of this key isn't met: the first such of header-info, then of the payloads in
+    /// order.
     Unmet(Name),
     /// The first line in `data/` whose sum isn't that of its file.
     PayloadDiffers(Differs),
+    /// This payload has no type-info: the first such. It is tried behind the faults of header-info;
+    /// payload 0 is among the files that must be there.
+    NoTypeInfo(u32),
+    /// This path is that of a payload that header-info doesn't name: the first such. It is tried
+    /// behind `NoTypeInfo`, and before the faults of type-info.
+    NoSuchPayload(Name),
 }
 
 /// Why nothing was admitted.
@@ -104,5 +113,15 @@ impl From<NoMemory> for AdmitFault {
 
     fn from(_fault: NoMemory) -> AdmitFault {
         AdmitFault::Memory
+    }
+}
+
+impl From<SourceFault> for AdmitFault {
+    ghost use Rattle.admit.specs.declared.refusal.AdmitFault.TheVariants as fault;
+
+    ghost from_gives = { λ _ e. e ≡ fault.Source };
+
+    fn from(_fault: SourceFault) -> AdmitFault {
+        AdmitFault::Source
     }
 }

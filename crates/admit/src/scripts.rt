@@ -1,13 +1,13 @@
 //! The scripts that the artifact brings.
 
-ghost use Rattle.std.specs.Prelude.{◌≡◌, ◌≤◌, ◌<◌, ◌^◌, ◌&&◌, None, Some, length, All, IsSome, IfSome, IfOk, IfErr, OnOk, OnErr, MatchOption};
+ghost use Rattle.std.specs.Prelude.{◌≡◌, ◌≤◌, ◌<◌, ◌^◌, ◌&&◌, None, Some, length, All, IsSome, IfSome, IfOk, IfErr, OnOk, OnErr};
 ghost use Rattle.std.specs.Option.{option_copied, is_some};
 ghost use Rattle.std.specs.BTreeSet.{insert_key};
 ghost use Rattle.upd_text.specs.Order.{byte_cmp};
+ghost use Rattle.script_names.specs.Scripts.{is_artifact_script};
 ghost use Rattle.admit.specs.Answers.{Gives, Own, IsCause};
-ghost use Rattle.admit.specs.Admit.{script_name, script_names, is_brought, bad_script, bad_script_name, too_many_scripts, in_order, scripts_of, with_script};
+ghost use Rattle.admit.specs.Admit.{script_name, script_names, bad_script, bad_script_name, too_many_scripts, in_order, scripts_of, with_script};
 
-use crate::paths::is_script;
 use crate::refusal::{AdmitFault, Refusal};
 use crate::table::{Head, lesser};
 use script_names::{AddFault, ScriptList, ScriptName};
@@ -15,27 +15,19 @@ use std::alloc::Global;
 use upd_text::{Name, NoMemory};
 
 /// The name of a file in the folder of the scripts.
-fn script_name(head: &Head) -> Option<&[u8]>
-    ensures { MatchOption result (script_name head.now.path ≡ None) (λ name. script_name head.now.path ≡ Some name.now) }
+fn script_name(head: &Head) -> Option<&Name>
+    ensures { option_copied result ≡ script_name head.now.path }
 {
-    let path = head.path.as_ref()?;
-    if is_script(path.bytes()) {
-        return Some(path.bytes().split_at(15).1);
-    }
-    None
+    head.place().script()
 }
 
 /// The script of this name that an artifact may bring.
-fn script_of(name: &[u8]) -> Option<ScriptName>
+#[tactic(auto, using(crate::proofs::ScriptLemmas::no_script))]
+fn script_of(name: &Name) -> Option<ScriptName>
     ensures name { IfSome result (λ script. script ≡ name.now) }
-    ensures brought { is_some result ≡ is_brought name.now }
+    ensures brought { is_some result ≡ is_artifact_script name.now }
 {
-    let Ok(name) = Name::read(name) else {
-        return None;
-    };
-    let Some(script) = ScriptName::read(&name) else {
-        return None;
-    };
+    let script = ScriptName::read(name)?;
     if script.is_of_artifact() {
         return Some(script);
     }
@@ -50,7 +42,7 @@ fn bad_script(head: &Head) -> Option<&Name>
     if script_of(name).is_some() {
         return None;
     }
-    head.path.as_ref()
+    head.path()
 }
 
 /// The first of these in byte order.

@@ -1,31 +1,42 @@
 //! The sums of files against those that the manifest lists.
 
-ghost use Rattle.std.specs.Prelude.{◌≡◌, ◌<◌, length, IfOk, IfErr, All, option_map};
-ghost use Rattle.std.specs.Option.{option_copied};
+ghost use Rattle.std.specs.Prelude.{◌≡◌, ◌<◌, ◌∷◌, [], true, length, IfOk, IfErr, IfSome, All, option_map};
+ghost use Rattle.std.specs.List.{zip};
+ghost use Rattle.std.specs.Result.{is_ok};
 ghost use Rattle.sha2.specs.Sha256.{sha256};
-ghost use Rattle.io_model.specs.Source.{count_of, bytes_at};
+ghost use Rattle.upd_text.specs.Told.{WhereTold};
+ghost use Rattle.io_model.specs.Source.{count_of, bytes_at, Counts};
+ghost use Rattle.io_model.specs.Reading.{OnlyOf, AreRead};
 ghost use Rattle.admit.specs.Told.{When};
-ghost use Rattle.admit.specs.Kept.{AreKept};
-ghost use Rattle.admit.specs.Answers.{Stops, Counted, Gives, IsProper};
+ghost use Rattle.admit.specs.Kept.{IsKept};
+ghost use Rattle.admit.specs.IsOf.{IsOf};
+ghost use Rattle.admit.specs.Answers.{Counted, Gives, IsRead, Finds, IfDiffers, faults_after};
 ghost use Rattle.admit.specs.Table.{unless};
-ghost use Rattle.admit.specs.Admit.{picks, why, differing, differing_in, first_differing};
+ghost use Rattle.admit.specs.Given.{ReadsPayloads, SparesTheRest, NoneButThese, went_through};
+ghost use Rattle.admit.specs.Differing.{Listed, listed_of, in_payload, in_rest, differing, differing_in, first_differing, picked, IsDiffering, IsDifferingIn};
+ghost use Rattle.admit.specs.declared.refusal.Refusal.TheVariants.{SumDiffers};
 
-use crate::paths::is_payload;
+use crate::admitted::Admitted;
+use crate::place::place_of;
 use crate::reading::{Kept, sum_file, sum_text, zeros};
 use crate::refusal::{AdmitFault, Differs, Refusal};
-use crate::stop::Stop;
-use io_model::Source;
+use io_model::{Source, SourceFault};
 use manifest_sums::{Line, Sum};
 use std::alloc::Global;
 
-fn picks(payloads: bool, path: &[u8]) -> bool
-    ensures { result ≡ picks payloads path.now }
+/// Why the sums of the payloads aren't right.
+#[derive(Drop)]
+pub enum PayloadFault {
+    /// A call of the source failed.
+    Source,
+    /// The first file of a payload, in the manifest's order, whose sum isn't the listed one.
+    Differs(Differs),
+}
+
+fn in_payload(line: &Line) -> bool
+    ensures { result ≡ in_payload line.now.path }
 {
-    if payloads {
-        is_payload(path)
-    } else {
-        !is_payload(path)
-    }
+    place_of(&line.path).is_payload()
 }
 
 fn differing(line: &Line, found: Sum) -> Option<Differs>
@@ -41,119 +52,186 @@ fn differing(line: &Line, found: Sum) -> Option<Differs>
     })
 }
 
+// ---- the rest
+
 /// The sum of a file: of the text that was kept, or read in pieces.
 fn sum_of<S: Source>(
     source: &mut S,
     n: u32,
-    kept: Option<&Kept>,
+    kept: &Kept,
     buffer: &mut [u8],
-) -> Result<Sum, Stop>
+) -> Result<Sum, SourceFault>
     requires file { n < count_of (S.content source.old) }
     requires room { 0 < length buffer.old }
-    requires kept { When (S.content source.old) (λ t. AreKept t (option_copied kept)) }
+    requires kept { When (S.content source.old) (λ t. IsKept t kept.now) }
     ensures same { S.content source.new ≡ S.content source.old }
     ensures plan { S.plan source.new ≡ S.plan source.old }
-    ensures stops { Stops (S.faults source.old) result (S.faults source.new) }
+    ensures given { WhereTold (OnlyOf n) (S.given source.old) (S.given source.new) }
+    ensures counts { Counts (S.faults source.old) result (S.faults source.new) }
     ensures sum { IfOk result (λ sum. When (S.content source.old) (λ t. sum ≡ sha256 (bytes_at t n))) }
 {
-    if let Some(kept) = kept {
-        if let Some(text) = kept.text_of(n) {
-            return Ok(sum_text(text));
-        }
+    if let Some(text) = kept.text_of(n) {
+        return Ok(sum_text(text));
     }
     sum_file(source, n, buffer)
 }
 
-fn differing_in<S: Source>(
+fn rest_differing<S: Source>(
     source: &mut S,
     line: &Line,
     n: u32,
-    payloads: bool,
-    kept: Option<&Kept>,
+    kept: &Kept,
     buffer: &mut [u8],
-) -> Result<Option<Differs>, Stop>
+) -> Result<Option<Differs>, SourceFault>
     requires file { n < count_of (S.content source.old) }
     requires room { 0 < length buffer.old }
-    requires kept { When (S.content source.old) (λ t. AreKept t (option_copied kept)) }
+    requires kept { When (S.content source.old) (λ t. IsKept t kept.now) }
     ensures same { S.content source.new ≡ S.content source.old }
     ensures plan { S.plan source.new ≡ S.plan source.old }
-    ensures stops { Stops (S.faults source.old) result (S.faults source.new) }
-    ensures value { IfOk result (λ d. When (S.content source.old) (λ t. d ≡ differing_in payloads t line.now n)) }
+    ensures given { WhereTold (NoneButThese (picked in_rest ((line.now, n) ∷ []))) (S.given source.old) (S.given source.new) }
+    ensures counts { Counts (S.faults source.old) result (S.faults source.new) }
+    ensures value { IfOk result (λ d. When (S.content source.old) (λ t. d ≡ differing_in in_rest t (line.now, n))) }
 {
-    if !picks(payloads, line.path.bytes()) {
+    if in_payload(line) {
         return Ok(None);
     }
     let found = sum_of(source, n, kept, buffer)?;
     Ok(differing(line, found))
 }
 
-/// The first of the lines, in `data/` or elsewhere, whose sum isn't that of its file.
-fn first_differing<S: Source>(
+/// The first line outside the payloads whose sum isn't that of its file.
+fn first_of_rest<S: Source>(
     source: &mut S,
     lines: &[Line],
     numbers: &[u32],
-    payloads: bool,
-    kept: Option<&Kept>,
+    kept: &Kept,
     buffer: &mut [u8],
-) -> Result<Option<Differs>, Stop>
+) -> Result<Option<Differs>, SourceFault>
     requires count { length numbers.now ≡ length lines.now }
     requires files { All (λ n. n < count_of (S.content source.old)) numbers.now }
     requires room { 0 < length buffer.old }
-    requires kept { When (S.content source.old) (λ t. AreKept t (option_copied kept)) }
+    requires kept { When (S.content source.old) (λ t. IsKept t kept.now) }
     ensures same { S.content source.new ≡ S.content source.old }
     ensures plan { S.plan source.new ≡ S.plan source.old }
-    ensures stops { Stops (S.faults source.old) result (S.faults source.new) }
-    ensures value { IfOk result (λ d. When (S.content source.old) (λ t. d ≡ first_differing payloads t lines.now numbers.now)) }
+    ensures given { WhereTold (NoneButThese (picked in_rest (zip lines.now numbers.now))) (S.given source.old) (S.given source.new) }
+    ensures counts { Counts (S.faults source.old) result (S.faults source.new) }
+    ensures value { IfOk result (λ d. When (S.content source.old) (λ t. d ≡ first_differing in_rest t (zip lines.now numbers.now))) }
 {
     for (i, line) in lines.iter().enumerate() {
-        let differs = differing_in(source, line, numbers[i], payloads, kept, buffer)?;
-        if let Some(differs) = differs {
-            return Ok(Some(differs));
+        match rest_differing(source, line, numbers[i], kept, buffer) {
+            Ok(None) => {}
+            Ok(Some(differs)) => return Ok(Some(differs)),
+            Err(SourceFault) => return Err(SourceFault),
         }
     }
     Ok(None)
 }
 
-/// The sums are those of the files, of the payload's lines or of all others.
-pub(crate) fn check_sums<S: Source>(
+/// The sums outside the payloads are those of the files.
+pub(crate) fn check_rest<S: Source>(
     alloc: Global,
     source: &mut S,
     lines: &[Line],
     numbers: &[u32],
-    payloads: bool,
-    kept: Option<&Kept>,
+    kept: &Kept,
 ) -> Result<(), AdmitFault>
     requires count { length numbers.now ≡ length lines.now }
     requires files { All (λ n. n < count_of (S.content source.old)) numbers.now }
-    requires kept { When (S.content source.old) (λ t. AreKept t (option_copied kept)) }
+    requires kept { When (S.content source.old) (λ t. IsKept t kept.now) }
     ensures same { S.content source.new ≡ S.content source.old }
     ensures plan { S.plan source.new ≡ S.plan source.old }
+    ensures given { WhereTold (NoneButThese (picked in_rest (zip lines.now numbers.now))) (S.given source.old) (S.given source.new) }
     ensures counts { Counted (S.faults source.old) result (S.faults source.new) }
-    ensures proper { IfErr result IsProper }
-    ensures told { When (S.content source.old) (λ t. Gives result (unless (option_map (why payloads) (first_differing payloads t lines.now numbers.now)))) }
+    ensures cause { IfErr result IsRead }
+    ensures told { When (S.content source.old) (λ t. Gives result (unless (option_map SumDiffers (first_differing in_rest t (zip lines.now numbers.now))))) }
 {
     let Ok(mut buffer) = zeros(alloc, 65_536) else {
         return Err(AdmitFault::Memory);
     };
-    match first_differing(
-        source,
-        lines,
-        numbers,
-        payloads,
-        kept,
-        buffer.as_mut_slice(),
-    )? {
+    match first_of_rest(source, lines, numbers, kept, buffer.as_mut_slice())? {
         None => Ok(()),
-        Some(differs) => Err(AdmitFault::Refused(refusal_of(payloads, differs))),
+        Some(differs) => Err(AdmitFault::Refused(Refusal::SumDiffers(differs))),
     }
 }
 
-fn refusal_of(payloads: bool, differs: Differs) -> Refusal
-    ensures { result ≡ why payloads differs }
+// ---- the payloads
+
+fn payload_differing<S: Source>(
+    source: &mut S,
+    line: &Line,
+    n: u32,
+    buffer: &mut [u8],
+) -> Result<Option<Differs>, SourceFault>
+    requires file { n < count_of (S.content source.old) }
+    requires room { 0 < length buffer.old }
+    ensures same { S.content source.new ≡ S.content source.old }
+    ensures plan { S.plan source.new ≡ S.plan source.old }
+    ensures given { When (S.content source.old) (λ t. WhereTold (AreRead (is_ok result) t (picked in_payload ((line.now, n) ∷ []))) (S.given source.old) (S.given source.new)) }
+    ensures counts { Counts (S.faults source.old) result (S.faults source.new) }
+    ensures differs { IfOk result (λ d. IfSome d (λ d. (in_payload line.now.path ≡ true) × IsDiffering (S.content source.old) (line.now, n) d)) }
+    ensures value { IfOk result (λ d. When (S.content source.old) (λ t. d ≡ differing_in in_payload t (line.now, n))) }
 {
-    if payloads {
-        Refusal::PayloadDiffers(differs)
-    } else {
-        Refusal::SumDiffers(differs)
+    if !in_payload(line) {
+        return Ok(None);
+    }
+    let found = sum_file(source, n, buffer)?;
+    Ok(differing(line, found))
+}
+
+/// The first line of a payload's file whose sum isn't that of the file.
+fn first_of_payloads<S: Source>(
+    source: &mut S,
+    lines: &[Line],
+    numbers: &[u32],
+    buffer: &mut [u8],
+) -> Result<Option<Differs>, SourceFault>
+    requires count { length numbers.now ≡ length lines.now }
+    requires files { All (λ n. n < count_of (S.content source.old)) numbers.now }
+    requires room { 0 < length buffer.old }
+    ensures same { S.content source.new ≡ S.content source.old }
+    ensures plan { S.plan source.new ≡ S.plan source.old }
+    ensures given { When (S.content source.old) (λ t. WhereTold (AreRead (went_through result) t (picked in_payload (zip lines.now numbers.now))) (S.given source.old) (S.given source.new)) }
+    ensures counts { Counts (S.faults source.old) result (S.faults source.new) }
+    ensures differs { IfOk result (λ d. IfSome d (IsDifferingIn in_payload (S.content source.old) (zip lines.now numbers.now))) }
+    ensures value { IfOk result (λ d. When (S.content source.old) (λ t. d ≡ first_differing in_payload t (zip lines.now numbers.now))) }
+{
+    for (i, line) in lines.iter().enumerate() {
+        match payload_differing(source, line, numbers[i], buffer) {
+            Ok(None) => {}
+            Ok(Some(differs)) => return Ok(Some(differs)),
+            Err(SourceFault) => return Err(SourceFault),
+        }
+    }
+    Ok(None)
+}
+
+/// Reads the payloads' files, in the manifest's order and in pieces of the buffer, and compares
+/// their sums with the listed ones. Conditions: the buffer isn't empty, and `admitted` is of this
+/// source. Each file is read once, up to the first that differs. It takes no memory.
+pub fn sum_payloads<S: Source>(
+    source: &mut S,
+    admitted: &Admitted,
+    buffer: &mut [u8],
+) -> Result<(), PayloadFault>
+    requires of_source { IsOf (S.content source.old) admitted.now }
+    requires room { 0 < length buffer.old }
+    ensures same { S.content source.new ≡ S.content source.old }
+    ensures plan { S.plan source.new ≡ S.plan source.old }
+
+    // what was read, where the files and the numbers are told
+    ensures payloads { When (S.content source.old) (λ t. ReadsPayloads (is_ok result) t (S.given source.old) (S.given source.new)) }
+    ensures rest { When (S.content source.old) (λ t. SparesTheRest t (S.given source.old) (S.given source.new)) }
+
+    // the answer
+    ensures counts { S.faults source.new ≡ faults_after result (S.faults source.old) }
+    ensures told { When (S.content source.old) (λ t. Finds result (first_differing in_payload t (listed_of admitted.now))) }
+    ensures differs { IfDiffers result (IsDifferingIn in_payload (S.content source.old) (listed_of admitted.now)) }
+{
+    let lines = admitted.manifest.lines();
+    let numbers = admitted.numbers.as_slice();
+    match first_of_payloads(source, lines, numbers, buffer) {
+        Ok(None) => Ok(()),
+        Ok(Some(differs)) => Err(PayloadFault::Differs(differs)),
+        Err(SourceFault) => Err(PayloadFault::Source),
     }
 }

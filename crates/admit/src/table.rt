@@ -5,21 +5,79 @@ ghost use Rattle.std.specs.List.{list_any, filter_map};
 ghost use Rattle.std.specs.Option.{option_copied};
 ghost use Rattle.io_model.specs.Source.{count_of};
 ghost use Rattle.admit.specs.Told.{When};
+ghost use Rattle.admit.specs.Places.{place_at};
 ghost use Rattle.admit.specs.Answers.{Stops, IsCause};
-ghost use Rattle.admit.specs.Table.{heads_of, is_named, has_path, place_in, too_many, bad_path, first_bad_path, path_of, needed, long_path, lesser, least, too_long, table_of, AreIn};
+ghost use Rattle.admit.specs.Table.{heads_of, has_path, place_in, too_many, bad_path, first_bad_path, path_of, needed, long_path, lesser, least, too_long, table_of, AreIn};
 
-use crate::paths::{is_allowed, is_augmented, is_header};
+use crate::place::{TreePlace, place_at};
 use crate::refusal::{Refusal, Which};
 use crate::stop::Stop;
 use io_model::Source;
 use std::alloc::Global;
+use std::marker::Model;
 use upd_text::{ListOf, Name};
 
-/// A file's path and length.
+/// A file's path and length, and what stands at its path, which is parsed once.
 #[derive(Drop)]
 pub(crate) struct Head {
-    pub path: Option<Name>,
-    pub length: u64,
+    path: Option<Name>,
+    place: TreePlace,
+    length: u64,
+}
+
+impl Model for Head {
+    ghost use Rattle.std.specs.Prelude.{◌≡◌};
+    ghost use Rattle.admit.specs.Places.{place_at};
+    ghost use Rattle.admit.specs.Table.{FileHead};
+
+    ghost Value = { FileHead };
+
+    ghost view = { λ h. record { path = h.path; length = h.length } };
+
+    ghost invariant = { λ h. h.place ≡ place_at h.path };
+}
+
+impl Head {
+    fn new(path: Option<Name>, length: u64) -> Head
+        ensures { result ≡ record { path = path; length = length } }
+    {
+        let place = place_at(&path);
+        Head {
+            path,
+            place,
+            length,
+        }
+    }
+
+    /// The path, or `None` where it is no name.
+    pub(crate) fn path(&self) -> Option<&Name>
+        ensures { option_copied result ≡ self.now.path }
+    {
+        self.path.as_ref()
+    }
+
+    /// What stands at the path.
+    pub(crate) fn place(&self) -> &TreePlace
+        ensures { result.now ≡ place_at self.now.path }
+    {
+        &self.place
+    }
+
+    /// How many bytes the file has.
+    pub(crate) fn length(&self) -> u64
+        ensures { result ≡ self.now.length }
+    {
+        self.length
+    }
+
+    fn has_path(&self, path: &[u8]) -> bool
+        ensures { result ≡ has_path path.now self.now }
+    {
+        match &self.path {
+            Some(name) => name.bytes() == path,
+            None => false,
+        }
+    }
 }
 
 /// Where the files are that must be there.
@@ -28,13 +86,13 @@ pub(crate) struct Places {
     pub version: u32,
     pub manifest: u32,
     pub header_info: u32,
-    pub type_info: u32,
 }
 
 /// The table of all files.
 pub(crate) fn read_table<S: Source>(alloc: Global, source: &mut S) -> Result<ListOf<Head>, Stop>
     ensures same { S.content source.new ≡ S.content source.old }
     ensures plan { S.plan source.new ≡ S.plan source.old }
+    ensures given { S.given source.new ≡ S.given source.old }
     ensures stops { Stops (S.faults source.old) result (S.faults source.new) }
     ensures count { IfOk result (λ heads. length heads ≡ count_of (S.content source.old)) }
     ensures heads { IfOk result (λ heads. When (S.content source.old) (λ t. heads ≡ heads_of t)) }
@@ -43,18 +101,9 @@ pub(crate) fn read_table<S: Source>(alloc: Global, source: &mut S) -> Result<Lis
     for i in 0..source.files() {
         let path = source.path(i)?;
         let length = source.length(i)?;
-        heads.push(Head { path, length })?;
+        heads.push(Head::new(path, length))?;
     }
     Ok(heads)
-}
-
-fn is_named(path: &Option<Name>, wanted: &[u8]) -> bool
-    ensures { result ≡ is_named wanted.now path.now }
-{
-    match path {
-        Some(name) => name.bytes() == wanted,
-        None => false,
-    }
 }
 
 /// The index of the first file with the path.
@@ -62,33 +111,32 @@ pub(crate) fn place_in(heads: &[Head], path: &[u8]) -> Option<usize>
     ensures at { result ≡ place_in heads.now path.now }
     ensures bound { IfSome result (λ i. i < length heads.now) }
 {
-    heads.iter().position(|head| is_named(&head.path, path))
+    heads.iter().position(|head| head.has_path(path))
 }
 
 fn is_among(heads: &[Head], path: &[u8]) -> bool
     ensures { result ≡ list_any (has_path path.now) heads.now }
 {
-    heads.iter().any(|head| is_named(&head.path, path))
+    heads.iter().any(|head| head.has_path(path))
 }
 
 #[tactic(auto, unfolding(crate::specs::Table::bad_path))]
-fn bad_path(earlier: &[Head], path: &Option<Name>) -> Option<Refusal>
+fn bad_path(earlier: &[Head], head: &Head) -> Option<Refusal>
     requires { length earlier.now < 2 ^ 32 }
-    ensures value { result ≡ bad_path earlier.now path.now }
+    ensures value { result ≡ bad_path earlier.now head.now.path }
     ensures cause { IfSome result IsCause }
 {
     let i = earlier.len() as u32;
-    let Some(path) = path else {
+    let Some(path) = head.path() else {
         return Some(Refusal::BadPath(i));
     };
-    let path = path.bytes();
-    if is_augmented(path) {
+    if head.place().is_barred() {
         return Some(Refusal::Augmented(i));
     }
-    if !is_allowed(path) {
+    if !head.place().is_allowed() {
         return Some(Refusal::BadPath(i));
     }
-    if is_among(earlier, path) {
+    if is_among(earlier, path.bytes()) {
         return Some(Refusal::DoubledPath(i));
     }
     None
@@ -102,7 +150,7 @@ fn first_bad_path(heads: &[Head]) -> Option<Refusal>
     ensures cause { IfSome result IsCause }
 {
     for (i, head) in heads.iter().enumerate() {
-        if let Some(refusal) = bad_path(&heads[..i], &head.path) {
+        if let Some(refusal) = bad_path(&heads[..i], head) {
             return Some(refusal);
         }
     }
@@ -138,8 +186,8 @@ fn needed(heads: &[Head], which: Which) -> Result<u32, Refusal>
 fn long_path(head: &Head) -> Option<&Name>
     ensures { option_copied result ≡ long_path head.now.path head.now.length }
 {
-    let path = head.path.as_ref()?;
-    if 65_536 < head.length && is_header(path.bytes()) {
+    let path = head.path()?;
+    if 65_536 < head.length() && head.place().is_header() {
         return Some(path);
     }
     None
@@ -187,7 +235,7 @@ pub(crate) fn check_table(heads: &[Head]) -> Result<Places, Refusal>
     let version = needed(heads, Which::Version)?;
     let manifest = needed(heads, Which::Manifest)?;
     let header_info = needed(heads, Which::HeaderInfo)?;
-    let type_info = needed(heads, Which::TypeInfo)?;
+    needed(heads, Which::TypeInfo)?;
     if let Some(refusal) = too_long(heads) {
         return Err(refusal);
     }
@@ -195,6 +243,5 @@ pub(crate) fn check_table(heads: &[Head]) -> Result<Places, Refusal>
         version,
         manifest,
         header_info,
-        type_info,
     })
 }

@@ -1,86 +1,26 @@
 //! Trees and their answers.
 
 mod crowds;
+mod payloads;
 mod rows;
 mod told;
 
-use crate::{AdmitFault, Admitted, Refusal, admit};
-use artifact_meta::MetaFault;
-use io_model::{FileList, MemSource};
-use manifest_sums::{ManifestFault, Summing};
+use crate::{AdmitFault, Admitted, admit};
+use io_model::{FileList, Line, MemSource};
+use manifest_sums::Summing;
 use provides_map::Provides;
 use script_names::{ScriptList, Site};
 use std::alloc::Global;
 use std::test::Fail;
 use upd_text::{CallList, Name};
 
-/// An answer as a number, 0 for an admitted tree, with its further numbers.
-fn number_of(answer: &Result<Admitted, AdmitFault>) -> (u8, [u32; 2]) {
+/// What a user would read of an answer.
+fn text_of(answer: &Result<Admitted, AdmitFault>) -> Line {
     match answer {
-        Ok(_) => (0, [0, 0]),
-        Err(AdmitFault::Source) => (100, [0, 0]),
-        Err(AdmitFault::Memory) => (101, [0, 0]),
-        Err(AdmitFault::Refused(refusal)) => refused(refusal),
-    }
-}
-
-fn refused(refusal: &Refusal) -> (u8, [u32; 2]) {
-    match refusal {
-        Refusal::TooManyFiles(count) => (3, [*count, 0]),
-        Refusal::Augmented(i) => (4, [*i, 0]),
-        Refusal::BadPath(i) => (5, [*i, 0]),
-        Refusal::DoubledPath(i) => (6, [*i, 0]),
-        Refusal::NoFile(which) => (7, [*which as u32, 0]),
-        Refusal::HeaderTooLong(_) => (8, [0, 0]),
-        Refusal::Manifest(fault) => (9, of_manifest(*fault)),
-        Refusal::NotListed(_) => (10, [0, 0]),
-        Refusal::Absent(_) => (11, [0, 0]),
-        Refusal::SumDiffers(_) => (12, [0, 0]),
-        Refusal::BadVersion => (13, [0, 0]),
-        Refusal::Meta(fault) => (14, of_meta(*fault)),
-        Refusal::BadScriptName(_) => (15, [0, 0]),
-        Refusal::TooManyScripts(count) => (16, [*count, 0]),
-        Refusal::Unmet(_) => (17, [0, 0]),
-        Refusal::PayloadDiffers(_) => (18, [0, 0]),
-    }
-}
-
-fn of_manifest(fault: ManifestFault) -> [u32; 2] {
-    match fault {
-        ManifestFault::BadLine(k) => [1, k],
-        ManifestFault::Doubled(k) => [2, k],
-        ManifestFault::PackedHeader(k) => [3, k],
-        ManifestFault::TooMany => [4, 0],
-        ManifestFault::NoMemory => [5, 0],
-    }
-}
-
-fn of_meta(fault: MetaFault) -> [u32; 2] {
-    match fault {
-        MetaFault::NotJson(file) => [1, file as u32 + 1],
-        MetaFault::Missing(field) => [2, field as u32 + 1],
-        MetaFault::WrongKind(field) => [3, field as u32 + 1],
-        MetaFault::BadText(field) => [4, field as u32 + 1],
-        MetaFault::PayloadCount(count) => [5, count],
-        MetaFault::NullType => [6, 0],
-        MetaFault::TypeDiffers => [7, 0],
-        MetaFault::NoMemory => [8, 0],
-    }
-}
-
-/// The path or key that an answer names.
-fn name_of(answer: &Result<Admitted, AdmitFault>) -> &[u8] {
-    match answer {
-        Err(AdmitFault::Refused(refusal)) => match refusal {
-            Refusal::HeaderTooLong(path)
-            | Refusal::NotListed(path)
-            | Refusal::Absent(path)
-            | Refusal::BadScriptName(path)
-            | Refusal::Unmet(path) => path.bytes(),
-            Refusal::SumDiffers(differs) | Refusal::PayloadDiffers(differs) => differs.path.bytes(),
-            _ => b"",
-        },
-        _ => b"",
+        Ok(_) => Line::named(b"admitted", b""),
+        Err(AdmitFault::Source) => Line::named(b"source fault", b""),
+        Err(AdmitFault::Memory) => Line::named(b"no memory", b""),
+        Err(AdmitFault::Refused(refusal)) => refusal.line(),
     }
 }
 

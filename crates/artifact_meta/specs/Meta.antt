@@ -1,12 +1,13 @@
 -- The fields of header-info and type-info, from the JSON value of the file, or the first fault.
-use Rattle.std.specs.Prelude.{◌≡◌, ◌⊎◌, ℕ, ◌==◌, ◌&&◌, Bool, false, not, if◌then◌else◌, List, [], ◌∷◌, ◌++◌, codes, Option, Some, None, option_and_then, Result, Ok, Err}
+use Rattle.std.specs.Prelude.{ℕ, ◌==◌, ◌&&◌, Bool, false, if◌then◌else◌, List, [], ◌∷◌, ◌++◌, codes, Option, Some, None, option_and_then, Result, Ok, Err}
 use Rattle.std.specs.Option.{ok_or}
-use Rattle.std.specs.List.{list_any}
 use Rattle.std.specs.Str.{bytes_eq, is_utf8}
 use Rattle.serde_json.specs.Data.{Data, null, boolean, number, string, array, object, Items, no_items, item, Members, no_members, member}
 use Rattle.serde_json.specs.Read.{read}
 use Rattle.serde_json.specs.Find.{get, as_str, as_array, as_object, as_number, as_u64}
 use Rattle.upd_text.specs.Text.{name_of, value_of}
+use Rattle.upd_text.specs.Parts.{is_plain}
+use Rattle.upd_text.specs.Results.{◌>>=◌, Gives}
 use Rattle.upd_text.specs.declared.fault.NameFault.{NameFault}
 use Rattle.provides_map.specs.Pairs.{Pairs, put}
 use Rattle.provides_map.specs.declared.change.Clears.{Clears}
@@ -19,18 +20,9 @@ use Rattle.artifact_meta.specs.declared.fault.Field.{Field}
 use Rattle.artifact_meta.specs.declared.fault.Field.TheVariants.{InfoTop, InfoType, InfoProvides, InfoDepends, InfoClears}
 use Rattle.artifact_meta.specs.declared.info.TypeInfo.{TypeInfo}
 
-infixl 10 ◌>>=◌
-abbrev pub ◌>>=◌ : {A B : Type 0} → Result A MetaFault → (A → Result B MetaFault) → Result B MetaFault
-(Ok x) >>= f = f x
-(Err e) >>= f = Err e
-
 -- The answer is what the definition gives. Want of memory is the one free answer.
-abbrev pub Gives : {X A : Type 0} → (X → A) → Result X MetaFault → Result A MetaFault → Type 0
-Gives view (Ok x) meant = meant ≡ Ok (view x)
-Gives view (Err e) meant = (e ≡ NoMemory) ⊎ (meant ≡ Err e)
-
 abbrev pub Answers : {A : Type 0} → Result A MetaFault → Result A MetaFault → Type 0
-Answers answer meant = Gives (λ x. x) answer meant
+Answers answer meant = Gives NoMemory (λ x. x) answer meant
 
 -- ---- parts of fields
 
@@ -75,10 +67,7 @@ texts reads f d = one_or_list reads f d (as_str d)
 
 -- ---- type-info
 
--- a payload type: a Name without `/` that is neither `.` nor `..`
-abbrev pub is_plain : List ℕ → Bool
-is_plain name = not (list_any (λ b. b == 47) name) && (not (bytes_eq name (codes ".")) && not (bytes_eq name (codes "..")))
-
+-- a payload type
 abbrev pub plain : Field → List ℕ → Result (List ℕ) MetaFault
 plain f name = if is_plain name then Ok name else Err (BadText f)
 

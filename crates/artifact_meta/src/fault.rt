@@ -17,10 +17,10 @@ pub enum MetaFile {
 pub enum Field {
     /// Header-info as a whole: an object.
     HeaderTop,
-    /// `payloads`: a list. It has to be there, with one item.
+    /// `payloads`: a list. It has to be there, with 1 to 8 items.
     Payloads,
-    /// `type` of the payload, which is an object: a name without `/` that is neither `.` nor `..`.
-    /// It has to be there.
+    /// `type` of each payload in order, which is an object: a name without `/` that is neither `.`
+    /// nor `..`. It has to be there.
     PayloadType,
     /// `artifact_provides` of header-info: an object. It has to be there.
     HeaderProvides,
@@ -63,8 +63,8 @@ pub enum MetaFault {
     WrongKind(Field),
     /// A string or a key in the field isn't such a name or value.
     BadText(Field),
-    /// The list of payloads has this many items, and not one; 2^32 - 1 stands for all greater
-    /// numbers.
+    /// The list of payloads has this many items, none or more than 8; 2^32 - 1 stands for all
+    /// greater numbers.
     PayloadCount(u32),
     /// A payload type is `null`.
     NullType,

@@ -1,14 +1,14 @@
-ghost use Rattle.std.specs.Prelude.{◌≡◌, ◌==◌, [], codes, Option, option_map};
-ghost use Rattle.std.specs.List.{list_any};
+ghost use Rattle.std.specs.Prelude.{◌≡◌, [], true, IfOk, option_map};
 ghost use Rattle.serde_json.specs.View.{view, items_view, members_view};
 ghost use Rattle.upd_text.specs.Text.{name_of, value_of};
-ghost use Rattle.artifact_meta.specs.Meta.{Answers, text, texts, texts_after, kind_of, is_plain, present, provides_after, provides_of, wants_after, wants_of, clears_of};
+ghost use Rattle.upd_text.specs.Parts.{is_plain};
+ghost use Rattle.artifact_meta.specs.Meta.{Answers, text, texts, texts_after, kind_of, present, provides_after, provides_of, wants_after, wants_of, clears_of};
 
 use crate::fault::{Field, MetaFault};
 use provides_map::{Clears, Pattern, PatternList, Provides, ValueList, Want, WantList};
 use serde_json::{Map, Value as Json};
 use std::alloc::Global;
-use upd_text::{ListOf, Name, Value};
+use upd_text::{ListOf, Name, Value, is_plain};
 
 // A string that is a name.
 pub(crate) fn name_in(field: Field, json: &Json) -> Result<Name, MetaFault>
@@ -101,7 +101,8 @@ pub(crate) fn clears_in(alloc: Global, json: Option<&Json>) -> Result<Clears, Me
 
 // A payload type.
 pub(crate) fn kind_in(field: Field, json: Option<&Json>) -> Result<Name, MetaFault>
-    ensures { Answers result (kind_of field (option_map (λ v. view v.now) json.entry)) }
+    ensures value { Answers result (kind_of field (option_map (λ v. view v.now) json.entry)) }
+    ensures plain { IfOk result (λ name. is_plain name ≡ true) }
 {
     let Some(json) = json else {
         return Err(MetaFault::Missing(field));
@@ -115,24 +116,6 @@ pub(crate) fn kind_in(field: Field, json: Option<&Json>) -> Result<Name, MetaFau
     } else {
         Err(MetaFault::BadText(field))
     }
-}
-
-fn has_slash(name: &[u8]) -> bool
-    ensures { result ≡ list_any (λ b. b == 47) name.now }
-{
-    name.iter().any(|b| *b == 47)
-}
-
-fn is_plain(name: &[u8]) -> bool
-    ensures { result ≡ is_plain name.now }
-{
-    if has_slash(name) {
-        return false;
-    }
-    if name == b".".as_slice() {
-        return false;
-    }
-    !(name == b"..".as_slice())
 }
 
 fn pairs_of(alloc: Global, map: &Map<String, Json>) -> Result<Provides, MetaFault>

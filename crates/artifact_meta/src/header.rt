@@ -1,22 +1,24 @@
 ghost use Rattle.std.specs.Prelude.{◌≡◌, ◌∷◌, [], codes, option_map, Ok, IfOk};
 ghost use Rattle.serde_json.specs.View.{view, items_view};
 ghost use Rattle.provides_map.specs.After.{artifact_name, artifact_group, device_type};
-ghost use Rattle.artifact_meta.specs.Meta.{Answers, Gives, with_want};
-ghost use Rattle.artifact_meta.specs.Header.{needed, needed_object, only, payload_kind, group_of, texts_or_none, header_wants, header_of, header_info_of};
+ghost use Rattle.upd_text.specs.Results.{Gives};
+ghost use Rattle.artifact_meta.specs.Meta.{Answers, with_want};
+ghost use Rattle.artifact_meta.specs.Header.{needed, needed_object, group_of, texts_or_none, header_wants, header_of, header_info_of, AreKinds};
 
 use crate::fault::{Field, MetaFault, MetaFile};
-use crate::fields::{kind_in, name_in, present, values_in};
+use crate::fields::{name_in, present, values_in};
 use crate::info::parse;
-use provides_map::{ValueList, Want, WantList};
+use crate::kinds::payload_kinds;
+use provides_map::{ValueList, Want, WantList, group_key, name_key};
 use serde_json::Value as Json;
 use std::alloc::Global;
-use upd_text::{ListOf, Name};
+use upd_text::{KindList, ListOf, Name};
 
 /// The fields of header-info.
 #[derive(Drop)]
 pub struct HeaderInfo {
-    /// The type of the payload.
-    pub kind: Name,
+    /// The types of the payloads, one for each in order.
+    pub kinds: KindList,
     /// The artifact's name.
     pub name: Name,
     /// The artifact's group, where it has one.
@@ -26,8 +28,8 @@ pub struct HeaderInfo {
     pub wants: WantList,
 }
 
-fn needed<'a>(field: Field, name: &str, json: &'a Json) -> Result<&'a Json, MetaFault>
-    ensures { Gives (λ v. view v.now) result (needed field name.now (view json.now)) }
+pub(crate) fn needed<'a>(field: Field, name: &str, json: &'a Json) -> Result<&'a Json, MetaFault>
+    ensures { Gives MetaFault.NoMemory (λ v. view v.now) result (needed field name.now (view json.now)) }
 {
     match present(name, json) {
         Some(found) => Ok(found),
@@ -36,7 +38,7 @@ fn needed<'a>(field: Field, name: &str, json: &'a Json) -> Result<&'a Json, Meta
 }
 
 fn needed_object<'a>(field: Field, name: &str, json: &'a Json) -> Result<&'a Json, MetaFault>
-    ensures { Gives (λ v. view v.now) result (needed_object field name.now (view json.now)) }
+    ensures { Gives MetaFault.NoMemory (λ v. view v.now) result (needed_object field name.now (view json.now)) }
 {
     let found = needed(field, name, json)?;
     if found.is_object() {
@@ -44,32 +46,6 @@ fn needed_object<'a>(field: Field, name: &str, json: &'a Json) -> Result<&'a Jso
     } else {
         Err(MetaFault::WrongKind(field))
     }
-}
-
-#[tactic(auto, using(crate::proofs::Payloads::only_rules))]
-fn only(items: &[Json]) -> Result<&Json, MetaFault>
-    ensures { Gives (λ v. view v.now) result (only (items_view items.now)) }
-{
-    if items.len() == 1 {
-        return Ok(&items[0]);
-    }
-    let count = items.len().min(0xffff_ffff) as u32;
-    Err(MetaFault::PayloadCount(count))
-}
-
-#[tactic(auto, unfolding(crate::specs::Header::payload_kind))]
-fn payload_kind(json: &Json) -> Result<Name, MetaFault>
-    ensures { Answers result (payload_kind (view json.now)) }
-{
-    let payloads = needed(Field::Payloads, "payloads", json)?;
-    let Some(items) = payloads.as_array() else {
-        return Err(MetaFault::WrongKind(Field::Payloads));
-    };
-    let payload = only(items.as_slice())?;
-    if !payload.is_object() {
-        return Err(MetaFault::WrongKind(Field::PayloadType));
-    }
-    kind_in(Field::PayloadType, payload.get("type"))
 }
 
 fn group_in(json: Option<&Json>) -> Result<Option<Name>, MetaFault>
@@ -101,7 +77,7 @@ fn values_or_none(alloc: Global, field: Field, json: Option<&Json>) -> Result<Va
 
 // A list with no value gives no want.
 fn push_want(wants: &mut WantList, key: Name, allowed: ValueList) -> Result<(), MetaFault>
-    ensures { Gives (λ _. wants.new) result (Ok (with_want wants.old key allowed)) }
+    ensures { Gives MetaFault.NoMemory (λ _. wants.new) result (Ok (with_want wants.old key allowed)) }
 {
     if allowed.len() > 0 {
         wants.push(Want { key, allowed })?;
@@ -138,28 +114,15 @@ fn device_type_key() -> Name
     Name::read(b"device_type").ok().unwrap()
 }
 
-#[tactic(auto, unfolding(upd_text::specs::Text::name_of))]
-fn name_key() -> Name
-    ensures { result ≡ artifact_name }
-{
-    Name::read(b"artifact_name").ok().unwrap()
-}
-
-#[tactic(auto, unfolding(upd_text::specs::Text::name_of))]
-fn group_key() -> Name
-    ensures { result ≡ artifact_group }
-{
-    Name::read(b"artifact_group").ok().unwrap()
-}
-
 #[tactic(auto, unfolding(crate::specs::Header::header_of))]
 fn header(alloc: Global, json: &Json) -> Result<HeaderInfo, MetaFault>
-    ensures { Answers result (header_of (view json.now)) }
+    ensures value { Answers result (header_of (view json.now)) }
+    ensures kinds { IfOk result (λ header. AreKinds header.kinds) }
 {
     if !json.is_object() {
         return Err(MetaFault::WrongKind(Field::HeaderTop));
     }
-    let kind = payload_kind(json)?;
+    let kinds = payload_kinds(alloc, json)?;
     let provides = needed_object(Field::HeaderProvides, "artifact_provides", json)?;
     let found = needed(Field::ArtifactName, "artifact_name", provides)?;
     let name = name_in(Field::ArtifactName, found)?;
@@ -167,7 +130,7 @@ fn header(alloc: Global, json: &Json) -> Result<HeaderInfo, MetaFault>
     let depends = needed_object(Field::HeaderDepends, "artifact_depends", json)?;
     let wants = header_wants(alloc, depends)?;
     Ok(HeaderInfo {
-        kind,
+        kinds,
         name,
         group,
         wants,
@@ -180,7 +143,8 @@ fn header(alloc: Global, json: &Json) -> Result<HeaderInfo, MetaFault>
 /// `PayloadCount` or `NullType`; and `NoMemory`, which may come for any file.
 #[tactic(auto, unfolding(crate::specs::Header::header_info_of))]
 pub fn read_header_info(alloc: Global, bytes: &[u8]) -> Result<HeaderInfo, MetaFault>
-    ensures { Answers result (header_info_of bytes.now) }
+    ensures value { Answers result (header_info_of bytes.now) }
+    ensures kinds { IfOk result (λ header. AreKinds header.kinds) }
 {
     match parse(alloc, bytes)? {
         None => Err(MetaFault::NotJson(MetaFile::HeaderInfo)),

@@ -8,7 +8,7 @@ use crate::fields::{clears_in, kind_in, present, provides_in, wants_in};
 use provides_map::{Clears, Provides, WantList};
 use serde_json::Value as Json;
 use std::alloc::Global;
-use upd_text::{Name, NoMemory};
+use upd_text::{ListOf, Name, NoMemory};
 
 /// The fields of type-info.
 #[derive(Drop)]
@@ -22,6 +22,9 @@ pub struct TypeInfo {
     /// Which provides go.
     pub clears: Clears,
 }
+
+/// The fields of type-info files, one for each payload in order.
+pub type InfoList = ListOf<TypeInfo>;
 
 // The JSON value of a file, if it has one.
 #[tactic(auto, using(crate::proofs::Json::json_rules))]

@@ -10,10 +10,14 @@ mod fault;
 mod fields;
 mod header;
 mod info;
+mod kinds;
+mod laws;
 
 pub use fault::{Field, MetaFault, MetaFile};
 pub use header::{HeaderInfo, read_header_info};
-pub use info::{TypeInfo, read_type_info, read_version};
+pub use info::{InfoList, TypeInfo, read_type_info, read_version};
+pub use kinds::MOST_PAYLOADS;
+pub use laws::{lists_are_read_in_order, no_reader_compares_types};
 
 #[cfg(test)]
 mod tests;

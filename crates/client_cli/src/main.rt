@@ -3,48 +3,23 @@
 
 ghost use Rattle.std.specs.Prelude.{IfOk};
 ghost use Rattle.device_mem.specs.Mem.{state_of};
-ghost use Rattle.client_cli.specs.Host.{IsNew};
+ghost use Rattle.host_edge.specs.Host.{IsNew};
 
-mod children;
-mod device;
-mod fault;
-mod files;
-mod sink;
-mod site;
-mod source;
-mod words;
-
-use crate::device::HostDevice;
-use crate::fault::HostFault;
-use crate::sink::HostSink;
-use crate::source::HostSource;
-use crate::words::words_of;
 use client_top::{Command, Status, read_command, run};
 use device_mem::{AnswerList, AreaBytes, LossList, MemDevice, Script};
 use device_model::{Answer, ROOM};
+use host_edge::{
+    HostDevice, HostFault, HostSink, HostSource, cannot_start, fill_streams, words_of,
+};
 use script_names::{ScriptList, Site};
 use std::alloc::Global;
-use std::fs::{File, OpenOptions};
+use std::fs::File;
 use std::process::{ExitCode, Processes};
-use std::rt::Files;
+use std::rt::{Clock, Files};
 use upd_text::{CallList, Name, NoMemory};
 
 /// The data folder, in the folder where the program is started.
 const FOLDER: &str = "mender-data";
-
-fn null<R: Files>(rt: &R) -> Option<R::File> {
-    OpenOptions::new()
-        .read(true)
-        .write(true)
-        .open(rt, "/dev/null")
-        .ok()
-}
-
-fn cannot_start<R: Eprint>(rt: &R, fault: HostFault) -> ExitCode {
-    let number = fault.number();
-    let _ = eprintln!(rt; "cannot start {number}");
-    ExitCode::from(15)
-}
 
 /// Words that are no form need no device of the host: they are told over one in memory.
 fn plain_device(alloc: Global) -> Result<MemDevice, NoMemory>
@@ -54,6 +29,7 @@ fn plain_device(alloc: Global) -> Result<MemDevice, NoMemory>
         answers: AnswerList::new(alloc),
         supports: Answer::Exit(0),
         needs: Answer::Exit(0),
+        others: AnswerList::new(alloc),
         losses: LossList::new(alloc),
         cuts: CallList::new(alloc),
         faults: CallList::new(alloc),
@@ -97,7 +73,7 @@ fn source_of<R: Files + Drop>(
 }
 
 /// Does what the words say with the device of a data folder.
-fn obey<R: Files<File = File> + Processes + Print + Drop>(
+fn obey<R: Files<File = File> + Processes + Clock + Print + Drop>(
     rt: R,
     alloc: Global,
     folder: &str,
@@ -113,8 +89,9 @@ fn obey<R: Files<File = File> + Processes + Print + Drop>(
 }
 
 fn main(rt: HostRuntime) -> ExitCode {
-    // A standard stream that is closed gets the null device, so that no file opened later takes its number.
-    let _streams = [null(&rt), null(&rt), null(&rt)];
+    let Ok(_streams) = fill_streams(&rt) else {
+        return cannot_start(&rt, HostFault::NoStore);
+    };
     let alloc = rt.alloc();
     let Ok(words) = words_of(&rt) else {
         return cannot_start(&rt, HostFault::NoMemory);

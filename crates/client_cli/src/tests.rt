@@ -1,113 +1,16 @@
-//! The store as a real file.
+//! The client over real files and programs.
 
 mod trees;
 
-use crate::device::HostDevice;
-use crate::fault::HostFault;
-use crate::files::joined;
 use crate::obey;
-use device_model::{Device, ROOM};
 use std::alloc::Global;
-use std::fs::{self, File};
-use std::io;
+use std::fs;
 use std::os::unix::fs::PermissionsExt;
-use std::process::Processes;
 use std::rt::Files;
 use std::test::Fail;
 
-/// A data folder of a device of the type `beaglebone`.
-fn data_folder<R: Files>(rt: &R, alloc: Global, folder: &str) -> io::Result<()> {
-    fs::create_dir(rt, folder)?;
-    let path = joined(alloc, folder, "device_type")?;
-    fs::write(rt, path.as_str(), b"device_type=beaglebone\n")
-}
-
-/// Why the device of a folder can't be opened, if it can't.
-fn fault_of<R: Files<File = File> + Processes>(
-    rt: &R,
-    alloc: Global,
-    folder: &str,
-) -> Option<HostFault> {
-    HostDevice::attach(rt, alloc, folder).err()
-}
-
-#[test]
-fn a_store_that_is_absent_is_made_of_zeros(rt: HostRuntime) -> Result<(), Fail> {
-    data_folder(&rt, rt.alloc(), "absent")?;
-    let (mut device, _) = HostDevice::attach(&rt, rt.alloc(), "absent").map_err(|_| "no device")?;
-    assert_eq!(rt; fs::metadata(&rt, "absent/store")?.len(), 266_240);
-    assert_eq!(rt; device.room(), ROOM);
-    let mut into = [7; 3];
-    assert_eq!(rt; device.disk_sync(), Ok(()));
-    assert_eq!(rt; device.disk_read(266_237, &mut into), Ok(()));
-    assert_eq!(rt; into, [0, 0, 0]);
-    Ok(())
-}
-
-#[test]
-fn a_short_store_keeps_its_bytes_and_grows(rt: HostRuntime) -> Result<(), Fail> {
-    data_folder(&rt, rt.alloc(), "short")?;
-    fs::write(&rt, "short/store", b"abc")?;
-    let (mut device, _) = HostDevice::attach(&rt, rt.alloc(), "short").map_err(|_| "no device")?;
-    assert_eq!(rt; fs::metadata(&rt, "short/store")?.len(), 266_240);
-    assert_eq!(rt; device.room(), ROOM);
-    let mut into = [7; 4];
-    assert_eq!(rt; device.disk_read(0, &mut into), Ok(()));
-    assert_eq!(rt; into, [b'a', b'b', b'c', 0]);
-    Ok(())
-}
-
-#[test]
-fn a_write_stands_in_the_store(rt: HostRuntime) -> Result<(), Fail> {
-    data_folder(&rt, rt.alloc(), "written")?;
-    let (mut device, _) = HostDevice::attach(&rt, rt.alloc(), "written").map_err(|_| "no device")?;
-    assert_eq!(rt; device.room(), ROOM);
-    assert_eq!(rt; device.disk_write(266_238, b"ab"), Ok(()));
-    let mut into = [7; 3];
-    assert_eq!(rt; device.disk_read(266_237, &mut into), Ok(()));
-    assert_eq!(rt; into, [0, b'a', b'b']);
-    Ok(())
-}
-
-#[test]
-fn what_is_no_store_is_a_fault_of_the_host(rt: HostRuntime) -> Result<(), Fail> {
-    assert_eq!(rt;
-        fault_of(&rt, rt.alloc(), "nowhere"),
-        Some(HostFault::NoFolder)
-    );
-    fs::write(&rt, "file", b"")?;
-    assert_eq!(rt;
-        fault_of(&rt, rt.alloc(), "file"),
-        Some(HostFault::NoFolder)
-    );
-    data_folder(&rt, rt.alloc(), "folder")?;
-    fs::create_dir(&rt, "folder/store")?;
-    assert_eq!(rt;
-        fault_of(&rt, rt.alloc(), "folder"),
-        Some(HostFault::NoStore)
-    );
-    fs::create_dir(&rt, "untyped")?;
-    assert_eq!(rt;
-        fault_of(&rt, rt.alloc(), "untyped"),
-        Some(HostFault::NoDeviceType)
-    );
-    fs::write(&rt, "untyped/device_type", b"device_type=\n")?;
-    assert_eq!(rt;
-        fault_of(&rt, rt.alloc(), "untyped"),
-        Some(HostFault::BadDeviceType)
-    );
-    Ok(())
-}
-
-#[test]
-fn a_second_client_does_not_start(rt: HostRuntime) -> Result<(), Fail> {
-    data_folder(&rt, rt.alloc(), "held")?;
-    let first = HostDevice::attach(&rt, rt.alloc(), "held").map_err(|_| "no device")?;
-    assert_eq!(rt; fault_of(&rt, rt.alloc(), "held"), Some(HostFault::NoStore));
-    drop(first);
-    assert_eq!(rt; fault_of(&rt, rt.alloc(), "held"), None);
-    Ok(())
-}
+/// What `device_type` says.
+const TYPE: &[u8] = b"device_type=beaglebone\n";
 
 /// The record of an update to release-2 in its cleanup, behind the 4,096 bytes in front of slot 0.
 const CLEANUP: &[u8] = b"MUP1\x0b\x02\x00\x00\x04\x00\x00\x00\x00\x00\x00\x4b\
@@ -115,14 +18,58 @@ const CLEANUP: &[u8] = b"MUP1\x0b\x02\x00\x00\x04\x00\x00\x00\x00\x00\x00\x4b\
 \x00\x02\x00\x0bapp.version\x00\x012\x00\x0dartifact_name\x00\x09release-2\
 \x0bsingle-file\x00";
 
+/// The record of version 1 in the demo's store, of a finished update to release-2.
+const FINISHED: &[u8] = b"MUP1\x00\x02\x00\x00\x05\x00\x00\x00\x00\x00\x00\x4b\
+\x00\x00\
+\x00\x02\x00\x0bapp.version\x00\x012\x00\x0dartifact_name\x00\x09release-2\
+\x0bsingle-file\x00";
+
+/// The demo's store up to the end of that record, which stands in slot 0.
+fn demo_store(alloc: Global) -> Result<Vec<u8>, Fail> {
+    let mut store = Vec::new(alloc);
+    for _ in 0..4_096 {
+        store.push(0)?;
+    }
+    store.extend_from_slice(FINISHED)?;
+    Ok(store)
+}
+
+#[test]
+fn a_store_of_version_1_is_shown_migrated_and_shown_again(rt: HostRuntime) -> Result<(), Fail> {
+    fs::create_dir_all(&rt, "migrated")?;
+    fs::write(&rt, "migrated/device_type", TYPE)?;
+    let store = demo_store(rt.alloc())?;
+    fs::write(&rt, "migrated/store", store.as_slice())?;
+    let mut words = Vec::new(rt.alloc());
+    words.push(String::from_str(rt.alloc(), "show-provides")?)?;
+    let status = obey(&rt, rt.alloc(), "migrated", words.as_slice()).map_err(|_| "no device")?;
+    assert_eq!(rt; status.number(), 0);
+    let area = fs::read(&rt, "migrated/store")?;
+    assert_eq!(rt; area.len(), 266_240);
+    assert_eq!(rt; area.get(0).copied(), Some(1));
+    assert!(rt;
+        area.get(4_096..)
+            .ok_or("a whole area")?
+            .starts_with(b"MUP1")
+    );
+    let record = area.get(135_168..).ok_or("a whole area")?;
+    assert!(rt; record.starts_with(b"MUP2\x00\x02\x00\x00\x05\x01\x00\x00\x00\x00\x00\x4b"));
+    let status = obey(&rt, rt.alloc(), "migrated", words.as_slice()).map_err(|_| "no device")?;
+    assert_eq!(rt; status.number(), 0);
+    let again = fs::read(&rt, "migrated/store")?;
+    assert!(rt; again.as_slice() == area.as_slice());
+    rt.remove_dir_all(rt.alloc(), "migrated")?;
+    Ok(())
+}
+
 /// A program that writes its words into the folder in which it runs, and some text for nobody.
 const MODULE: &[u8] =
     b"#!/bin/sh\necho not for the client\nprintf '%s\\n' \"$#\" \"$1\" \"$2\" > words\nexit 3\n";
 
 #[test]
 fn a_module_is_called_with_its_state_and_its_folder(rt: HostRuntime) -> Result<(), Fail> {
-    data_folder(&rt, rt.alloc(), "resumed")?;
     fs::create_dir_all(&rt, "resumed/modules/v3")?;
+    fs::write(&rt, "resumed/device_type", TYPE)?;
     fs::write(&rt, "resumed/modules/v3/single-file", MODULE)?;
     let may_run = fs::Permissions::from_mode(0o755);
     fs::set_permissions(&rt, "resumed/modules/v3/single-file", may_run)?;
@@ -145,13 +92,19 @@ fn a_module_is_called_with_its_state_and_its_folder(rt: HostRuntime) -> Result<(
     let written = fs::read_to_string(&rt, "resumed/work/0000/words")?;
     assert_eq!(rt; written.as_str(), wanted.as_str());
 
-    // the finished record stands in slot 0 again, after slot 1 was picked
+    // the mount wrote the record as version 2 into slot 1; cell 1 has the cleanup, and cell 0, which is picked, the end
     let area = fs::read(&rt, "resumed/store")?;
     assert_eq!(rt; area.len(), 266_240);
-    assert_eq!(rt; area.get(0).copied(), Some(0));
-    assert_eq!(rt; area.get(4_100).copied(), Some(0));
-    assert_eq!(rt; area.get(4_104).copied(), Some(5));
-    assert_eq!(rt; area.get(135_172).copied(), Some(11));
-    assert_eq!(rt; area.get(135_176).copied(), Some(5));
+    assert_eq!(rt; area.get(0).copied(), Some(1));
+    assert_eq!(rt; area.get(4_096 + 3).copied(), Some(b'1'));
+    assert_eq!(rt; area.get(135_168 + 3).copied(), Some(b'2'));
+    assert_eq!(rt; area.get(135_168 + 4).copied(), Some(11));
+    assert_eq!(rt; area.get(135_168 + 8).copied(), Some(4));
+    assert_eq!(rt; area.get(2_048).copied(), Some(0));
+    assert_eq!(rt; area.get(2_112 + 4).copied(), Some(0));
+    assert_eq!(rt; area.get(2_112 + 8).copied(), Some(5));
+    assert_eq!(rt; area.get(2_176 + 4).copied(), Some(11));
+    assert_eq!(rt; area.get(2_176 + 8).copied(), Some(5));
+    rt.remove_dir_all(rt.alloc(), "resumed")?;
     Ok(())
 }

@@ -1,19 +1,22 @@
 -- The position that a deployment enters when it is resumed.
-use Rattle.std.proofs.Common.{◌≡◌, ◌⊎◌, inl, inr, ⊎_elim, ℕ, ◌+◌, ◌<◌, ◌≤◌, Bool, true, false, cond, nat_lt, refl, sym, ap, subst, arith}
-use Rattle.std.specs.Prelude.{⊤, ◌&&◌, IsTrue, nat_le}
+use Rattle.std.proofs.Common.{◌≡◌, inl, inr, ℕ, ◌+◌, ◌<◌, ◌≤◌, Bool, true, false, cond, nat_lt, refl, sym, subst, arith}
+use Rattle.std.specs.Prelude.{◌&&◌, IsTrue, nat_le, ⊤}
 use Rattle.std.proofs.lemmas.Bool.Decides.{nat_tests}
 use Rattle.flow_table.specs.declared.position.State.TheVariants.{Idle, Cleanup}
 use Rattle.flow_table.specs.declared.position.Outcome.{Outcome}
 use Rattle.flow_table.specs.declared.position.Outcome.TheVariants.{Undecided, Kept, Committed, RolledBack, Inconsistent}
 use Rattle.flow_table.specs.declared.position.Position.{Position}
 use Rattle.flow_table.specs.Valid.{is_valid, is_outcome, is_undoable, is_reboot, is_count}
-use Rattle.flow_table.specs.Table.{enter_of, lost_of, settled}
+use Rattle.flow_table.specs.Table.{lost_of, settled}
 use Rattle.record_codec.specs.declared.entry.Entry.{Entry}
 use Rattle.record_codec.specs.declared.entry.Db.{Db}
-use Rattle.record_codec.specs.declared.entry.Db.TheVariants.{Empty, Full}
+use Rattle.record_codec.specs.declared.entry.Db.TheVariants.{Full}
 use Rattle.record_codec.specs.Spelling.{IsRight, IfFull}
-use Rattle.client_top.specs.Boot.{finished, resumed, Starts}
-use Rattle.client_top.specs.Drives.{Enters, EntersDb, IsEnding, IsDecided}
+use Rattle.client_top.specs.Drives.{Enters, EntersDb, IsEnding}
+
+abbrev IsDecided : Outcome → Type 0
+IsDecided Undecided = ⊥
+IsDecided o = ⊤
 
 -- what a valid position in its cleanup has
 record Has (p : Position) : Type 0 where
@@ -109,7 +112,7 @@ has p (inr idle) valid =
     let r = idle-range p.n h.1 in
     record { decided = idle-decided p.outcome h.0; some = r.0; few = r.1 }
 
--- a finished position is valid, and so is one in its cleanup
+-- a position at its end is valid, and so is one in its cleanup
 idle-valid : (p : Position) (o : Outcome) → IsDecided o → 1 ≤ p.n → p.n ≤ 28 → is_valid (record p { state = Idle; outcome = o }) ≡ true
 unfolding is_undoable is_reboot
 idle-valid p o decided some few = rw (idle-outcome o decided, idle-count p.n some few) refl
@@ -117,9 +120,6 @@ idle-valid p o decided some few = rw (idle-outcome o decided, idle-count p.n som
 cleanup-valid : (p : Position) (n : ℕ) → IsDecided p.outcome → 1 ≤ n → n ≤ 28 → is_valid (record p { state = Cleanup; n = n }) ≡ true
 unfolding is_undoable is_reboot
 cleanup-valid p n decided some few = rw (outcome-of p.outcome decided, count-of n some few) refl
-
-pub finished_valid : (p : Position) → IsTrue (is_valid p) → IsEnding p → IsTrue (is_valid (finished p))
-finished_valid p valid ending = let h = has p ending valid in idle-valid p p.outcome h.decided h.some h.few
 
 -- what is entered from a cleanup
 entered-by : (p : Position) (b : Bool) → nat_lt p.n 28 ≡ b → Has p → let q : Position = cond b (record p { state = Cleanup; outcome = p.outcome; n = p.n + 1 }) (record p { state = Idle; outcome = settled p.outcome }) in (is_valid q ≡ true) × IsEnding q × IsDecided q.outcome
@@ -135,7 +135,6 @@ enters e valid cleanup =
       starts = rw cleanup refl;
       valid = rw cleanup r.0;
       ending = rw cleanup r.1;
-      decided = rw cleanup r.2;
     }
 
 -- the same of a database

@@ -1,6 +1,5 @@
 pub mod Texts
 pub mod Dids
 pub mod Says
-pub mod Drives
 pub mod Resumes
 pub mod Enters

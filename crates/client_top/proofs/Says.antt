@@ -1,9 +1,9 @@
 -- The text of an answer, and the answer that is given.
-use Rattle.std.proofs.Common.{◌≡◌, ℕ, List, refl, sym, ap, ◌∙◌, subst}
+use Rattle.std.proofs.Common.{◌≡◌, ℕ, refl, sym, ap, ◌∙◌, subst}
 use Rattle.device_model.specs.State.{State}
 use Rattle.io_model.specs.Sink.{Written, Writes, WritesFront}
 use Rattle.record_codec.specs.declared.entry.Db.{Db}
-use Rattle.slot_store.specs.Mount.{Kept}
+use Rattle.slot_store.specs.Kept.{Kept}
 use Rattle.std.specs.Prelude.{Option}
 use Rattle.io_model.specs.Source.{Content}
 use Rattle.script_names.specs.declared.site.Site.{Site}
@@ -14,7 +14,7 @@ use Rattle.client_top.specs.declared.status.Good.TheVariants.{Committed, Shown, 
 use Rattle.client_top.specs.declared.status.Status.{Status}
 use Rattle.client_top.specs.declared.status.Status.TheVariants.{Done, Refused, NoUpdate, Inconsistent, DiskFault, SourceFault, NoMemory, SinkFault, PowerOff, BadStore, TooLarge, NotInstalled, NotYet}
 use Rattle.client_top.specs.Texts.{text_of, shown}
-use Rattle.client_top.specs.Obeyed.{IsText, Said, whole, cut, Obeyed}
+use Rattle.client_top.specs.Obeyed.{IsText, whole, cut, Obeyed}
 use Rattle.client_top.specs.declared.act.Deed.TheVariants.{Tell, Show}
 use Rattle.client_top.specs.Deeds.{IsTelling, Acted}
 

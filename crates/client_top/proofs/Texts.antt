@@ -1,6 +1,6 @@
 -- One text behind another in a sink.
-use Rattle.std.proofs.Common.{◌≡◌, ℕ, ◌+◌, ◌<◌, ◌≤◌, List, [], ◌∷◌, ◌++◌, length, take, drop, refl, sym, ap, subst, ◌∙◌, append_assoc, append-nil, arith}
-use Rattle.std.specs.Prelude.{Option, Some, None, Result, Ok, Err, get_or, slice_get, codes, true, false}
+use Rattle.std.proofs.Common.{◌≡◌, ℕ, ◌+◌, List, [], ◌∷◌, ◌++◌, take, drop, refl, sym, ap, subst, ◌∙◌, append_assoc, append-nil, arith}
+use Rattle.std.specs.Prelude.{Option, Some, None, get_or, slice_get, codes, true, false}
 use Rattle.std.specs.List.{flat_map}
 use Rattle.std.proofs.lemmas.List.{take_more, take-append-drop}
 use Rattle.std.proofs.lemmas.List.Folds.{flat_map-map}
@@ -14,6 +14,7 @@ use Rattle.record_codec.proofs.Marks.{broken_marks}
 use Rattle.record_codec.specs.Held.{marked}
 use Rattle.client_top.specs.Texts.{line, mark_if}
 use Rattle.io_model.specs.Sink.{Written, Adds, Writes, WritesFront}
+use Rattle.client_top.specs.Waiting.{IsAhead}
 
 adds-both : (a b c : Option (List ℕ)) (t u : List ℕ) → Adds a t b → Adds b u c → Adds a (t ++ u) c
 adds-both None b c t u p q = subst (λ (x : Option (List ℕ)). Adds x u c) p q
@@ -50,13 +51,36 @@ module _ {X : Type 0} (f : X → List ℕ) (xs : List X) (i : ℕ) (x : X) (is :
   all-of-it : flat_map f xs ≡ (flat_map f (take i xs) ++ f x) ++ flat_map f (drop (i + 1) xs)
   all-of-it = ap (flat_map f) (sym (take-append-drop (i + 1) xs)) ∙ flat_map-append f (take (i + 1) xs) (drop (i + 1) xs) ∙ ap (λ (t : List ℕ). t ++ flat_map f (drop (i + 1) xs)) one-more
 
-  -- one more piece was written
-  pub writes-more : (a b c : Written) → Writes a (flat_map f (take i xs)) b → Writes b (f x) c → Writes a (flat_map f (take (i + 1) xs)) c
-  writes-more a b c p q = subst (λ (t : List ℕ). Writes a t c) (sym one-more) (writes-both a b c p q)
+  -- one more line is written or waits
+  pub ahead-more : (a b c : Written) (page next : List ℕ) → IsAhead a (flat_map f (take i xs)) page b → IsAhead b (page ++ f x) next c → IsAhead a (flat_map f (take (i + 1) xs)) next c
+  ahead-more a b c page next p q = record {
+    written = p.written ++ q.written;
+    writes = writes-both a b c p.writes q.writes;
+    all = one-more ∙ ap (λ (t : List ℕ). t ++ f x) p.all ∙ append_assoc p.written page (f x) ∙ ap (λ (t : List ℕ). p.written ++ t) q.all ∙ sym (append_assoc p.written q.written next);
+  }
 
-  -- or the sink failed at it
-  pub writes-stop : (a b c : Written) → Writes a (flat_map f (take i xs)) b → WritesFront b (f x) c → WritesFront a (flat_map f xs) c
-  writes-stop a b c p q = subst (λ (t : List ℕ). WritesFront a t c) (sym all-of-it) (writes-cut a b c (flat_map f (drop (i + 1) xs)) p q)
+  -- or the sink failed at what waited
+  pub ahead-stop : (a b c : Written) (page : List ℕ) → IsAhead a (flat_map f (take i xs)) page b → WritesFront b page c → WritesFront a (flat_map f xs) c
+  ahead-stop a b c page p q =
+      let rest = flat_map f (drop (i + 1) xs) in
+      let all : flat_map f xs ≡ (p.written ++ page) ++ (f x ++ rest) = all-of-it ∙ append_assoc (flat_map f (take i xs)) (f x) rest ∙ ap (λ (t : List ℕ). t ++ (f x ++ rest)) p.all in
+      subst (λ (t : List ℕ). WritesFront a t c) (sym all) (writes-cut a b c (f x ++ rest) p.writes q)
+
+-- what waited is written last
+pub ahead-done : (a b c : Written) (text page : List ℕ) → IsAhead a text page b → Writes b page c → Writes a text c
+ahead-done a b c text page p q = subst (λ (t : List ℕ). Writes a t c) (sym p.all) (writes-both a b c p.writes q)
+
+pub ahead-failed : (a b c : Written) (text page : List ℕ) → IsAhead a text page b → WritesFront b page c → WritesFront a text c
+ahead-failed a b c text page p q = subst (λ (t : List ℕ). WritesFront a t c) (append-nil (p.written ++ page) ∙ sym p.all) (writes-cut a b c [] p.writes q)
+
+pub ahead-nothing : (a : Written) → IsAhead a [] [] a
+ahead-nothing a = record { written = []; writes = writes-nothing a; all = refl }
+
+pub ahead-waits : (a : Written) (page line : List ℕ) → IsAhead a (page ++ line) (page ++ line) a
+ahead-waits a page line = record { written = []; writes = writes-nothing a; all = refl }
+
+pub ahead-turned : (a b : Written) (page line next : List ℕ) → Writes a page b → next ≡ line → IsAhead a (page ++ line) next b
+ahead-turned a b page line next w e = record { written = page; writes = w; all = ap (λ (t : List ℕ). page ++ t) (sym e) }
 
 -- what an inconsistent update shows, line by line
 pub shown-broken : (ps : List (List ℕ × List ℕ)) → IsMap ps → flat_map line (broken ps) ≡ flat_map (λ p. line (mark_if true p)) ps

@@ -8,7 +8,7 @@ use Rattle.slot_store.specs.declared.store.MountFault.{MountFault}
 use Rattle.slot_store.specs.declared.store.MountFault.TheVariants as mount_fault
 use Rattle.client_top.specs.declared.status.Good.TheVariants.{Shown, Admitted}
 use Rattle.client_top.specs.declared.status.Status.{Status}
-use Rattle.client_top.specs.declared.status.Status.TheVariants.{Done, Refused, NoUpdate, Inconsistent, DiskFault, SourceFault, NoMemory, SinkFault, PowerOff, BadStore, TooLarge, NotInstalled, NotYet}
+use Rattle.client_top.specs.declared.status.Status.TheVariants.{Done, Refused, DiskFault, SourceFault, NoMemory, PowerOff, BadStore, TooLarge}
 use Rattle.io_model.specs.Source.{Content}
 use Rattle.provides_map.specs.Pairs.{Pairs}
 use Rattle.script_names.specs.declared.site.Site.{Site}

@@ -1,5 +1,5 @@
 -- What one command promises: the device and the sink before and after it, by what it answers.
-use Rattle.std.specs.Prelude.{◌≡◌, ◌≢◌, ◌⊎◌, ℕ, List, [], ◌++◌, ⊤, Option, Some, None, IfSome, Err}
+use Rattle.std.specs.Prelude.{◌≡◌, ◌⊎◌, ◌↔◌, ℕ, List, [], ◌++◌, ⊤, Option, Some, None, IfSome, Err}
 use Rattle.upd_text.specs.Counts.{counted}
 use Rattle.device_model.specs.declared.calls.Event.{Event}
 use Rattle.device_model.specs.Disk.{Disk, IsTold, IsSettled, area_of}
@@ -15,26 +15,27 @@ use Rattle.client_top.specs.declared.status.Command.TheVariants.{Resume, ShowPro
 use Rattle.client_top.specs.declared.status.Good.TheVariants.{Committed, Shown, Admitted}
 use Rattle.client_top.specs.declared.status.Status.{Status}
 use Rattle.client_top.specs.declared.status.Status.TheVariants.{Done, Refused, NoUpdate, Inconsistent, DiskFault, SourceFault, NoMemory, SinkFault, PowerOff, BadStore, TooLarge, NotInstalled, NotYet}
-use Rattle.client_top.specs.Boot.{Request, Found, Answers, Unsaid, finds, End, Nothing, Ended, Halted, Boot}
+use Rattle.client_top.specs.Boot.{Request, Found, Answers, Unsaid, finds, Boot}
+use Rattle.flow_words.specs.Pieces.{End, Ended, Halted}
 use Rattle.client_top.specs.Texts.{text_of, shown}
 
 -- the end of a boot that an answer tells
-abbrev pub end_of : Status → End
-end_of (Done Committed) = Ended outcome.Committed
-end_of (Done Shown) = Nothing
-end_of (Done Admitted) = Nothing
-end_of (Refused refusal) = Nothing
-end_of NoUpdate = Nothing
-end_of Inconsistent = Ended outcome.Inconsistent
-end_of DiskFault = Halted
-end_of SourceFault = Nothing
-end_of NoMemory = Nothing
-end_of SinkFault = Nothing
-end_of PowerOff = Halted
-end_of (BadStore offset) = Nothing
-end_of (TooLarge bytes) = Nothing
-end_of (NotInstalled how) = Ended how
-end_of (NotYet what) = Nothing
+abbrev pub end_of : Status → Option End
+end_of (Done Committed) = Some (Ended outcome.Committed)
+end_of (Done Shown) = None
+end_of (Done Admitted) = None
+end_of (Refused refusal) = None
+end_of NoUpdate = None
+end_of Inconsistent = Some (Ended outcome.Inconsistent)
+end_of DiskFault = Some Halted
+end_of SourceFault = None
+end_of NoMemory = None
+end_of SinkFault = None
+end_of PowerOff = Some Halted
+end_of (BadStore offset) = None
+end_of (TooLarge bytes) = None
+end_of (NotInstalled how) = Some (Ended how)
+end_of (NotYet what) = None
 
 -- what cut the command off
 abbrev pub how_of : Status → How
@@ -99,19 +100,32 @@ abbrev pub IsOfStore : Status → Type 0
 IsOfStore (BadStore offset) = ⊥
 IsOfStore status = IsRead status
 
-abbrev pub IsNothing : End → Type 0
-IsNothing Nothing = ⊤
-IsNothing _ = ⊥
+abbrev pub IsNothing : Option End → Type 0
+IsNothing None = ⊤
+IsNothing (Some end) = ⊥
 
 -- the source's count of faults: an answer for its fault adds one
 abbrev pub source_count : Status → ℕ → ℕ
 source_count SourceFault faults = counted faults
 source_count status faults = faults
 
--- a command that shows or checks starts nothing and writes nothing, and neither does one that ends before it begins
+-- a command that shows or checks deploys nothing, and neither does one that ends before it begins
 abbrev pub IsQuiet : Option Command → Status → Type 0
 IsQuiet (Some Resume) status = IsNothing (end_of status)
 IsQuiet command status = ⊤
+
+-- the areas stand for the same databases, where they are told
+abbrev pub SameDbs : State → State → Type 0
+SameDbs old new = IfSome (area_of old.disk) (λ before. IfSome (area_of new.disk) (λ area. (d : Db) → Stands area d ↔ Stands before d))
+
+-- The area after an answer with which nothing was deployed: it reads as before where no store was mounted, and stands for the
+-- same databases where one was, since a record of the older version is then written again.
+abbrev pub Leaves : Status → State → State → Type 0
+Leaves (BadStore offset) old new = SameArea old new
+Leaves (NotYet what) old new = (what ≡ 1 → SameArea old new) × SameDbs old new
+Leaves DiskFault old new = ⊤
+Leaves PowerOff old new = ⊤
+Leaves status old new = SameDbs old new
 
 -- The database d may stand, and one that could stand before leads to it.
 pub record Came (asked : Request) (old : Option Disk) (events : List Event) (status : Status) (d : Db) : Type 0 where
@@ -131,7 +145,7 @@ pub record Did (asked : Request) (from : Db) (old new : State) (faults faults' :
   pub due : Due (finds asked from) status
   pub path : (d : Db) × Boot asked from events (end_of status) d
   pub quiet : IsQuiet asked.command status → events ≡ []
-  pub leaves : IsQuiet asked.command status → how_of status ≢ PowerLost → SameArea old new
+  pub leaves : IsQuiet asked.command status → Leaves status old new
   pub work : IsQuiet asked.command status → new.work ≡ work_after new.on old.work
   pub settled : IsRead status → IsSettled new.disk
   pub sound : Sound old.disk → Sound new.disk

@@ -1,5 +1,5 @@
 -- The texts that a command writes.
-use Rattle.std.specs.Prelude.{ℕ, Bool, true, false, List, [], ◌∷◌, ◌++◌, codes}
+use Rattle.std.specs.Prelude.{ℕ, Bool, true, false, List, [], ◌++◌, codes}
 use Rattle.std.specs.List.{flat_map}
 use Rattle.std.specs.Fmt.{decimal}
 use Rattle.record_codec.specs.declared.entry.Db.{Db}
@@ -10,7 +10,7 @@ use Rattle.flow_table.specs.declared.position.Outcome.TheVariants as outcome
 use Rattle.client_top.specs.declared.status.Good.TheVariants.{Committed, Shown, Admitted}
 use Rattle.client_top.specs.declared.status.Status.{Status}
 use Rattle.client_top.specs.declared.status.Status.TheVariants.{Done, Refused, NoUpdate, Inconsistent, DiskFault, SourceFault, NoMemory, SinkFault, PowerOff, BadStore, TooLarge, NotInstalled, NotYet}
-use Rattle.client_top.specs.Refusals.{refused}
+use Rattle.admit.specs.Texts.{refused}
 
 -- key=value and a newline
 unfoldable pub line : List ℕ × List ℕ → List ℕ

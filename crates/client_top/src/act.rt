@@ -1,15 +1,16 @@
 //! What each command does, but for its text.
 
 ghost use Rattle.std.specs.Prelude.{◌≡◌, ◌≤◌, ℕ, true, Some};
-ghost use Rattle.slot_store.specs.Slots.{IsOf};
+ghost use Rattle.slot_store.specs.Kept.{IsOf};
 ghost use Rattle.client_top.specs.Boot.{Request};
 ghost use Rattle.client_top.specs.Deeds.{Acted, not_mounted};
 ghost use Rattle.client_top.specs.Drives.{WentOn};
 
 use crate::check::weigh;
-use crate::drive::{after, clean_up, entered};
+use crate::drive::{after, entered};
 use crate::status::{Command, Status};
-use device_model::Device;
+use device_model::{Device, ROOM};
+use flow_drive::drive;
 use io_model::Source;
 use script_names::Site;
 use slot_store::{MountFault, Store};
@@ -47,29 +48,29 @@ fn show_provides<D: Device>(alloc: Global, device: &mut D) -> Deed
 }
 
 /// Goes on with the deployment that the store holds.
-fn go_on<D: Device>(store: Store, device: &mut D) -> Status
+fn go_on<D: Device>(store: Store, site: &Site, device: &mut D) -> Status
     requires on { (D.means device.old).on ≡ true }
-    requires room { 3 ≤ (D.means device.old).room }
-    requires of { IsOf store.picked (D.means device.old).disk }
+    requires room { ROOM ≤ (D.means device.old).room }
+    requires of { IsOf store (D.means device.old).disk }
     ensures plan { D.plan device.new ≡ D.plan device.old }
-    ensures went { WentOn store.db result (D.means device.old) (D.means device.new) }
+    ensures went { WentOn site.now store.db result (D.means device.old) (D.means device.new) }
 {
     let mut store = store;
     match entered(store.db()) {
-        Ok(position) => after(clean_up(&mut store, device, position)),
+        Ok(position) => after(drive(&mut store, site, device, position, false)),
         Err(status) => status,
     }
 }
 
-fn resume<D: Device>(alloc: Global, device: &mut D) -> Status
+fn resume<D: Device>(alloc: Global, site: &Site, device: &mut D) -> Status
     requires on { (D.means device.old).on ≡ true }
-    requires room { 3 ≤ (D.means device.old).room }
+    requires room { ROOM ≤ (D.means device.old).room }
     ensures plan { D.plan device.new ≡ D.plan device.old }
-    ensures acted { (asked : Request) (faults : ℕ) → asked.command ≡ Some Command.Resume
+    ensures acted { (asked : Request) (faults : ℕ) → asked.command ≡ Some Command.Resume → asked.site ≡ site.now
         → Acted asked (D.means device.old) (D.means device.new) faults faults (Deed.Tell result) }
 {
     match Store::mount(alloc, device) {
-        Ok(store) => go_on(store, device),
+        Ok(store) => go_on(store, site, device),
         Err(fault) => not_mounted(fault),
     }
 }
@@ -97,7 +98,7 @@ pub(crate) fn act<S: Source, D: Device>(
     device: &mut D,
 ) -> Deed
     requires on { (D.means device.old).on ≡ true }
-    requires room { 3 ≤ (D.means device.old).room }
+    requires room { ROOM ≤ (D.means device.old).room }
     ensures plan { D.plan device.new ≡ D.plan device.old }
     ensures tree { S.content source.new ≡ S.content source.old }
     ensures source { S.plan source.new ≡ S.plan source.old }
@@ -106,7 +107,7 @@ pub(crate) fn act<S: Source, D: Device>(
     match asked {
         None => Deed::Tell(Status::NotYet(1)),
         Some(Command::ShowProvides) => show_provides(alloc, device),
-        Some(Command::Resume) => Deed::Tell(resume(alloc, device)),
+        Some(Command::Resume) => Deed::Tell(resume(alloc, site, device)),
         Some(Command::Check) => Deed::Tell(check(alloc, site, source, device)),
     }
 }

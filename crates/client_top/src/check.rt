@@ -1,51 +1,33 @@
 //! Whether a tree would be taken.
 
 ghost use Rattle.std.specs.Prelude.{◌≡◌, IfOk};
-ghost use Rattle.record_codec.specs.Spelling.{IsRight, IfFull};
+ghost use Rattle.record_codec.specs.declared.entry.Entry.{Entry};
+ghost use Rattle.record_codec.specs.Spelling.{IsRight, IfFull, record_length};
 ghost use Rattle.record_codec.specs.Held.{held};
 ghost use Rattle.client_top.specs.Boot.{begun, fitting};
 ghost use Rattle.client_top.specs.Deeds.{Weighs, not_admitted};
 
 use crate::status::{Good, Status};
 use admit::{AdmitFault, Admitted, admit};
-use flow_table::fresh;
 use io_model::Source;
-use provides_map::{Provides, after};
-use record_codec::{Db, Entry, encoded_length};
-use script_names::{ScriptList, Site};
+use provides_map::Provides;
+use record_codec::{Db, LARGEST_RECORD};
+use script_names::Site;
 use std::alloc::Global;
 use upd_text::NoMemory;
 
-/// How many bytes a record has at the most.
-const LARGEST: u64 = 131_072;
-
-/// The deployment that a plan makes of what is held.
-fn begun(alloc: Global, before: Provides, plan: Admitted) -> Result<Entry, NoMemory>
-    ensures { IfOk result (λ e. e ≡ begun before plan) }
+/// How many bytes the record of the deployment would have that a plan makes of what is held.
+fn begun_length(alloc: Global, before: &Provides, plan: &Admitted) -> Result<u64, NoMemory>
+    ensures { IfOk result (λ bytes. bytes ≡ record_length (begun before.now plan.now)) }
 {
     let change = plan.change(alloc)?;
-    let new = after(alloc, &before, &change)?;
-    let kind = plan.header.kind.twin();
-    Ok(Entry {
-        position: fresh(),
-        before,
-        new,
-        kind,
-        scripts: scripts_of(plan),
-    })
+    Ok(record_codec::begun_length(before, &change, &plan.header.kinds, &plan.scripts))
 }
 
-fn scripts_of(plan: Admitted) -> ScriptList
-    ensures { result ≡ plan.scripts }
+fn fitting(bytes: u64) -> Status
+    ensures { (e : Entry) → bytes ≡ record_length e → result ≡ fitting e }
 {
-    plan.scripts
-}
-
-fn fitting(entry: &Entry) -> Status
-    ensures { result ≡ fitting entry.now }
-{
-    let bytes = encoded_length(entry);
-    if bytes > LARGEST {
+    if bytes > u64::from(LARGEST_RECORD) {
         Status::TooLarge(bytes)
     } else {
         Status::Done(Good::Admitted)
@@ -66,8 +48,8 @@ pub(crate) fn weigh<S: Source>(alloc: Global, site: &Site, source: &mut S, db: &
         Ok(plan) => plan,
         Err(fault) => return not_admitted(fault),
     };
-    match begun(alloc, before, plan) {
-        Ok(entry) => fitting(&entry),
+    match begun_length(alloc, &before, &plan) {
+        Ok(bytes) => fitting(bytes),
         Err(_) => Status::NoMemory,
     }
 }

@@ -1,19 +1,19 @@
 //! The pairs that a database holds, and the texts of answers.
 
-ghost use Rattle.std.specs.Prelude.{◌≡◌, ◌++◌, ◌≤◌, length, codes};
+ghost use Rattle.std.specs.Prelude.{◌≡◌, ◌++◌, ◌≤◌, length, codes, OnOk, OnErr};
 ghost use Rattle.std.specs.List.{flat_map};
 ghost use Rattle.std.specs.Str.{bytes_eq};
 ghost use Rattle.provides_map.specs.After.{artifact_name};
 ghost use Rattle.provides_map.specs.Pairs.{IsMap};
-ghost use Rattle.io_model.specs.Sink.{Puts};
+ghost use Rattle.io_model.specs.Sink.{Puts, WritesFront};
 ghost use Rattle.record_codec.specs.Held.{marked, held_of};
+ghost use Rattle.client_top.specs.Waiting.{IsAhead};
 ghost use Rattle.client_top.specs.Texts.{line, mark_if, outcome_text, shown, text_of};
 
-use crate::line::Line;
-use crate::refusal::{numbered, refused};
+use crate::page::{Page, add_line, flush};
 use crate::status::{Good, Status};
 use flow_table::Outcome;
-use io_model::{Sink, SinkFault};
+use io_model::{Line, Sink, SinkFault};
 use provides_map::Provides;
 use record_codec::{Db, Entry};
 use upd_text::{Name, Value};
@@ -71,27 +71,38 @@ fn pair_line(key: &Name, value: &Value, mark: bool) -> Line
     }
 }
 
-/// Writes the line of a pair in one put.
-fn put_pair<O: Sink>(out: &mut O, key: &Name, value: &Value, mark: bool) -> Result<(), SinkFault>
-    ensures { Puts (O.means out.old) (line (mark_if mark (key.now, value.now))) result (O.means out.new) }
+/// Adds the line of a pair to what waits to be written.
+fn add_pair<O: Sink>(
+    out: &mut O,
+    page: &mut Page,
+    key: &Name,
+    value: &Value,
+    mark: bool,
+) -> Result<(), SinkFault>
+    ensures ok { OnOk result (IsAhead (O.means out.old) (page.old ++ line (mark_if mark (key.now, value.now))) page.new (O.means out.new)) }
+    ensures err { OnErr result (WritesFront (O.means out.old) page.old (O.means out.new)) }
 {
     let line = pair_line(key, value, mark);
-    out.put(line.bytes())
+    add_line(out, page, &line)
 }
 
-/// A line for each pair.
+/// A line for each pair, in pieces of a page.
 fn put_lines<O: Sink>(out: &mut O, pairs: &Provides, mark: bool) -> Result<(), SinkFault>
     ensures lines { Puts (O.means out.old) (flat_map (λ p. line (mark_if mark p)) pairs.now) result (O.means out.new) }
     ensures map { IsMap pairs.now }
 {
+    let mut page = Page::new();
     for i in 0..pairs.len() {
         let (key, value) = pairs.pair(i);
-        match put_pair(out, key, value, mark) {
+        match add_pair(out, &mut page, key, value, mark) {
             Ok(()) => {}
             Err(fault) => return Err(fault),
         }
     }
-    Ok(())
+    match flush(out, &mut page) {
+        Ok(()) => Ok(()),
+        Err(fault) => Err(fault),
+    }
 }
 
 fn show_entry<O: Sink>(out: &mut O, entry: &Entry) -> Result<(), SinkFault>
@@ -149,7 +160,7 @@ pub(crate) fn say<O: Sink>(out: &mut O, status: &Status) -> Result<(), SinkFault
         Status::Done(Good::Committed) => out.put(b"committed\n"),
         Status::Done(Good::Shown) => Ok(()),
         Status::Done(Good::Admitted) => out.put(b"admitted\n"),
-        Status::Refused(refusal) => out.put(refused(refusal).bytes()),
+        Status::Refused(refusal) => out.put(refusal.line().bytes()),
         Status::NoUpdate => out.put(b"no update\n"),
         Status::Inconsistent => out.put(b"inconsistent\n"),
         Status::DiskFault => out.put(b"disk fault\n"),
@@ -157,9 +168,12 @@ pub(crate) fn say<O: Sink>(out: &mut O, status: &Status) -> Result<(), SinkFault
         Status::NoMemory => out.put(b"no memory\n"),
         Status::SinkFault => Ok(()),
         Status::PowerOff => Ok(()),
-        Status::BadStore(offset) => out.put(numbered(b"bad store ", u64::from(*offset)).bytes()),
-        Status::TooLarge(bytes) => out.put(numbered(b"too large ", *bytes).bytes()),
+        Status::BadStore(offset) => out.put(Line::numbered(
+            b"bad store ",
+            u64::from(*offset),
+        ).bytes()),
+        Status::TooLarge(bytes) => out.put(Line::numbered(b"too large ", *bytes).bytes()),
         Status::NotInstalled(outcome) => out.put(not_installed(*outcome).bytes()),
-        Status::NotYet(what) => out.put(numbered(b"not yet ", u64::from(*what)).bytes()),
+        Status::NotYet(what) => out.put(Line::numbered(b"not yet ", u64::from(*what)).bytes()),
     }
 }

@@ -1,9 +1,10 @@
 //! What the client shows and answers over a device in memory, by tables.
 
 mod check;
+mod payloads;
 mod stops;
 
-ghost use Rattle.std.specs.Prelude.{◌≡◌, true, [], IfOk};
+ghost use Rattle.std.specs.Prelude.{◌≡◌, ◌≤◌, true, [], IfOk};
 ghost use Rattle.device_mem.specs.Mem.{state_of};
 
 use super::*;
@@ -15,7 +16,7 @@ use std::alloc::Global;
 use std::test::Fail;
 use upd_text::{CallList, Name, NoMemory};
 
-/// The record of a finished update to release-2.
+/// The record of version 1 of a finished update to release-2.
 const RECORD: [u8; 75] = *b"MUP1\x00\x02\x00\x00\x05\x00\x00\x00\x00\x00\x00\x4b\
 \x00\x00\
 \x00\x02\x00\x0bapp.version\x00\x012\x00\x0dartifact_name\x00\x09release-2\
@@ -54,6 +55,7 @@ fn device_of(
         answers: AnswerList::new(alloc),
         supports: Answer::Exit(0),
         needs: Answer::Exit(0),
+        others: AnswerList::new(alloc),
         losses,
         cuts: CallList::new(alloc),
         faults,
@@ -111,7 +113,7 @@ fn said(
 fn a_record_shows_what_it_holds(rt: HostRuntime) -> Result<(), Fail> {
     let marked = b"app.version=2\nartifact_name=release-2_INCONSISTENT\n".as_slice();
     // the selector, the slot of the record, the byte that is changed and to what, the answer, the text
-    let rows: [(u8, u32, u32, u8, u8, &[u8]); 20] = [
+    let rows: [(u8, u32, u32, u8, u8, &[u8]); 21] = [
         (0, SLOT_0, 0, b'M', 0, NEW),
         (1, SLOT_0, 0, b'M', 0, b""),
         (1, SLOT_1, 0, b'M', 0, NEW),
@@ -131,7 +133,8 @@ fn a_record_shows_what_it_holds(rt: HostRuntime) -> Result<(), Fail> {
         (0, SLOT_0, 15, 76, 11, b"bad store 75\n"),
         (0, SLOT_0, 22, b'z', 11, b"bad store 36\n"),
         (0, SLOT_0, 0, 1, 11, b"bad store 0\n"),
-        (0, SLOT_0, 3, b'2', 11, b"bad store 0\n"),
+        (0, SLOT_0, 3, b'2', 11, b"bad store 9\n"),
+        (0, SLOT_0, 3, b'3', 11, b"bad store 0\n"),
     ];
     for (selector, slot, at, byte, status, text) in rows {
         let area = area_with(rt.alloc(), selector, slot, at, byte)?;
@@ -139,6 +142,58 @@ fn a_record_shows_what_it_holds(rt: HostRuntime) -> Result<(), Fail> {
         assert_eq!(rt; answer.number(), status);
         assert_eq!(rt; out.written(), text);
     }
+    Ok(())
+}
+
+/// The text of `show-provides` over a device that is on.
+fn shown_by(alloc: Global, device: &mut MemDevice) -> Result<MemSink, Fail>
+    requires on { (state_of device.old).on ≡ true }
+    requires journal { (state_of device.old).journal ≡ [] }
+    requires room { ROOM ≤ (state_of device.old).room }
+{
+    let words = words_of(alloc, "show-provides")?;
+    let mut out = MemSink::new(alloc, 200, CallList::new(alloc))?;
+    let site = site_of(alloc, "beaglebone")?;
+    let mut source = no_tree(alloc);
+    let words = words.as_slice();
+    run(alloc, words, &site, &mut source, &mut out, device);
+    Ok(out)
+}
+
+/// The first 75 bytes of slot 1.
+fn slot_1_of(device: &MemDevice) -> Result<[u8; 75], Fail> {
+    let mut bytes = [0; 75];
+    let mut at = SLOT_1 as usize;
+    for byte in &mut bytes {
+        *byte = byte_at(device, at).ok_or("the area is whole")?;
+        at = at.saturating_add(1);
+    }
+    Ok(bytes)
+}
+
+#[test]
+fn a_record_of_version_1_shows_the_same_once_it_is_migrated(rt: HostRuntime) -> Result<(), Fail> {
+    let area = area_with(rt.alloc(), 0, SLOT_0, 0, b'M')?;
+    let mut device = calm_device(rt.alloc(), area)?;
+    let first = shown_by(rt.alloc(), &mut device)?;
+    assert_eq!(rt; first.written(), NEW);
+    assert_eq!(rt; byte_at(&device, 0), Some(1));
+    let migrated = b"MUP2\x00\x02\x00\x00\x05\x01\x00\x00\x00\x00\x00\x4b\x00\x00\x00\x02";
+    assert!(rt;
+        device
+            .area()
+            .get(135_168..)
+            .ok_or("the area is whole")?
+            .starts_with(migrated)
+    );
+    // what was written is shown as it is, and written no more
+    let mut area = AreaBytes::zeros(rt.alloc())?;
+    area.set(0, &[1]);
+    area.set(SLOT_1, &slot_1_of(&device)?);
+    let mut device = calm_device(rt.alloc(), area)?;
+    let again = shown_by(rt.alloc(), &mut device)?;
+    assert_eq!(rt; again.written(), NEW);
+    assert_eq!(rt; byte_at(&device, 0), Some(1));
     Ok(())
 }
 
@@ -165,7 +220,8 @@ fn other_words_are_told_as_such(rt: HostRuntime) -> Result<(), Fail> {
 
 #[test]
 fn a_sink_that_fails_has_a_front_of_the_text(rt: HostRuntime) -> Result<(), Fail> {
-    let rows: [(u64, u8, &[u8]); 3] = [(0, 8, b""), (1, 8, b"app.version=2\n"), (2, 0, NEW)];
+    // one page has the whole text
+    let rows: [(u64, u8, &[u8]); 2] = [(0, 8, b""), (1, 0, NEW)];
     for (failing, status, text) in rows {
         let area = area_with(rt.alloc(), 0, SLOT_0, 0, b'M')?;
         let (answer, out) = said(rt.alloc(), "show-provides", area, failing)?;
@@ -202,11 +258,19 @@ fn the_largest_record_is_shown_whole(rt: HostRuntime) -> Result<(), Fail> {
     assert_eq!(rt; record.len(), 131_072);
     let mut area = AreaBytes::zeros(rt.alloc())?;
     area.set(SLOT_0, record.as_slice());
-    let (answer, out) = said(rt.alloc(), "show-provides", area, 200)?;
+    let (answer, out) = said(rt.alloc(), "show-provides", area, 19)?;
     assert_eq!(rt; answer.number(), 0);
     assert_eq!(rt; out.written().len(), 130_791);
     assert!(rt; out.written().starts_with(b"artifact_name=r\nb00=vvv"));
     assert!(rt; out.written().ends_with(b"vvv\n"));
+
+    // a page has seven of these lines, and the third put fails
+    let mut area = AreaBytes::zeros(rt.alloc())?;
+    area.set(SLOT_0, record.as_slice());
+    let (answer, front) = said(rt.alloc(), "show-provides", area, 2)?;
+    assert_eq!(rt; answer.number(), 8);
+    assert_eq!(rt; front.written().len(), 16 + 14 * 1_029);
+    assert!(rt; out.written().starts_with(front.written()));
     Ok(())
 }
 
@@ -236,27 +300,52 @@ fn byte_at(device: &MemDevice, at: usize) -> Option<u8> {
     device.area().get(at).copied()
 }
 
+/// The state and the number of states for which the area stands: those of the picked cell, or of the record where it says
+/// nothing.
+fn standing(device: &MemDevice) -> Option<(u8, u8)> {
+    let area = device.area();
+    let odd = *area.get(0)? % 2 == 1;
+    let slot = if odd { 135_168 } else { 4_096 };
+    let cells = if odd { 2_048 } else { 1_024 };
+    let cell = cells + if *area.get(cells)? % 2 == 1 { 128 } else { 64 };
+    let from = if *area.get(cell)? == 0 { slot } else { cell };
+    Some((*area.get(from + 4)?, *area.get(from + 8)?))
+}
+
 #[test]
 fn a_cleanup_is_resumed(rt: HostRuntime) -> Result<(), Fail> {
-    // state, outcome and n in the record; the exit status, the text, the events, the selector, and n in the picked slot
-    let rows: [([u8; 3], u8, &[u8], u32, u8, u8); 8] = [
-        ([11, 2, 4], 0, b"committed\n", 2, 0, 5),
-        ([11, 2, 28], 0, b"committed\n", 0, 1, 28),
-        ([11, 1, 4], 14, b"not installed: kept\n", 2, 0, 5),
-        ([11, 3, 4], 14, b"not installed: rolled back\n", 2, 0, 5),
-        ([11, 4, 27], 3, b"inconsistent\n", 2, 0, 28),
-        ([11, 4, 28], 3, b"inconsistent\n", 0, 1, 28),
-        ([0, 2, 5], 2, b"no update\n", 0, 0, 5),
-        ([2, 0, 2], 16, b"not yet 2\n", 0, 0, 2),
+    // state, outcome and n in the record of version 1; the exit status, the text, the events, the cell's selector, and what stands
+    let rows: [([u8; 3], u8, &[u8], u32, u8, (u8, u8)); 8] = [
+        ([11, 2, 4], 0, b"committed\n", 2, 0, (0, 5)),
+        ([11, 2, 28], 0, b"committed\n", 0, 1, (0, 28)),
+        ([11, 1, 4], 14, b"not installed: kept\n", 2, 0, (0, 5)),
+        (
+            [11, 3, 4],
+            14,
+            b"not installed: rolled back\n",
+            2,
+            0,
+            (0, 5),
+        ),
+        ([11, 4, 27], 3, b"inconsistent\n", 2, 0, (0, 28)),
+        ([11, 4, 28], 3, b"inconsistent\n", 0, 1, (0, 28)),
+        ([0, 2, 5], 2, b"no update\n", 0, 0, (0, 5)),
+        ([2, 0, 2], 16, b"not yet 2\n", 0, 0, (2, 2)),
     ];
-    for ([state, outcome, n], status, text, events, selector, left) in rows {
+    for ([state, outcome, n], status, text, events, selector, stands) in rows {
         let (answer, out, device) = resumed(rt.alloc(), state, outcome, n)?;
         assert_eq!(rt; answer.number(), status);
         assert_eq!(rt; out.written(), text);
         assert_eq!(rt; device.journal().len(), events);
-        assert_eq!(rt; byte_at(&device, 0), Some(selector));
-        let slot = if selector == 0 { 4_096 } else { 135_168 };
-        assert_eq!(rt; byte_at(&device, slot + 8), Some(left));
+        // the mount wrote the record as version 2 into slot 1, at the position that it had; the rest went into its cells
+        assert_eq!(rt; byte_at(&device, 0), Some(1));
+        assert_eq!(rt; byte_at(&device, 4_096 + 3), Some(b'1'));
+        assert_eq!(rt; byte_at(&device, 135_168 + 3), Some(b'2'));
+        assert_eq!(rt; byte_at(&device, 135_168 + 4), Some(state));
+        assert_eq!(rt; byte_at(&device, 135_168 + 8), Some(n));
+        assert_eq!(rt; byte_at(&device, 135_168 + 9), Some(1));
+        assert_eq!(rt; byte_at(&device, 2_048), Some(selector));
+        assert_eq!(rt; standing(&device), Some(stands));
     }
     Ok(())
 }

@@ -1,5 +1,5 @@
 -- What a script says of a call.
-use Rattle.std.specs.Prelude.{◌≡◌, ℕ, ◌+◌, min, Bool, ◌==◌, [], length, slice_get, unwrap_or, find, Option, Some, None, if◌then◌else◌, ⊤}
+use Rattle.std.specs.Prelude.{◌≡◌, ℕ, ◌+◌, ◌-◌, min, Bool, ◌==◌, [], length, slice_get, unwrap_or, find, Option, Some, None, if◌then◌else◌, ⊤}
 use Rattle.std.specs.List.{list_any}
 use Rattle.device_model.specs.declared.calls.Answer.{Answer}
 use Rattle.device_model.specs.declared.calls.Answer.TheVariants.{Exit, Reply, NotStarted}
@@ -50,14 +50,19 @@ as_reply (Exit code) = Reply code []
 as_reply (Reply code text) = Reply code text
 as_reply NotStarted = NotStarted
 
-abbrev pub reply_to : Script → Query → Answer
-reply_to script SupportsRollback = as_reply script.supports
-reply_to script NeedsArtifactReboot = as_reply script.needs
+-- what a payload answers whether a rollback is supported: payload k from 1 on by item k - 1 of `others`, if that is there
+abbrev pub support_of : Script → ℕ → Answer
+support_of script payload = if payload == 0 then script.supports else unwrap_or (slice_get script.others (payload - 1)) script.supports
+
+-- the reply of this payload
+abbrev pub reply_to : Script → ℕ → Query → Answer
+reply_to script payload SupportsRollback = as_reply (support_of script payload)
+reply_to script payload NeedsArtifactReboot = as_reply script.needs
 
 -- the end of a child that is started where t answers were taken
 abbrev pub end_of : Script → ℕ → Call → Answer
 end_of script t (call.Module payload kind state) = as_exit (answer_at script t)
-end_of script t (call.Ask payload kind query) = reply_to script query
+end_of script t (call.Ask payload kind query) = reply_to script payload query
 end_of script t (call.Script name) = as_exit (answer_at script t)
 end_of script t call.SystemReboot = as_exit (answer_at script t)
 

@@ -287,7 +287,7 @@ impl Device for MemDevice {
             self.start_and_lose(&call, Tear::New);
             return Asked::Off;
         }
-        match self.log.replying(query) {
+        match self.log.replying(payload, query) {
             Replying::Reply(code, text) => {
                 self.start_and_end(&call, Answer::Reply(code, text.twin()));
                 Asked::Reply(code, text)

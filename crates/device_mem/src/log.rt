@@ -80,10 +80,10 @@ impl MemLog {
         }
     }
 
-    pub(crate) fn replying(&self, query: Query) -> Replying
-        ensures { reply_of result ≡ reply_to self.now.plan.script query }
+    pub(crate) fn replying(&self, payload: u8, query: Query) -> Replying
+        ensures { reply_of result ≡ reply_to self.now.plan.script payload query }
     {
-        reply_for(&self.plan.script, query)
+        reply_for(&self.plan.script, payload, query)
     }
 
     pub(crate) fn note_pause(&mut self, seconds: u32)

@@ -2,7 +2,7 @@
 
 ghost use Rattle.std.specs.Prelude.{◌≡◌, ◌==◌, find};
 ghost use Rattle.std.specs.List.{list_any};
-ghost use Rattle.device_mem.specs.Script.{moment_at, IsPlanned, is_cut, answer_at, as_exit, answer_of, reply_of, reply_to};
+ghost use Rattle.device_mem.specs.Script.{moment_at, IsPlanned, is_cut, answer_at, as_exit, answer_of, reply_of, reply_to, support_of};
 
 use device_model::{Answer, Query};
 use upd_text::{CallList, ListOf, Text32};
@@ -34,10 +34,12 @@ pub type LossList = ListOf<LossAt>;
 pub struct Script {
     /// How the children end that aren't asked. After the last answer each exits 0.
     pub answers: AnswerList,
-    /// The reply to each question whether a rollback is supported.
+    /// The reply to each question whether a rollback is supported that `others` has no reply to.
     pub supports: Answer,
     /// The reply to each question whether a reboot is needed.
     pub needs: Answer,
+    /// The replies of payloads 1, 2 and so on to the question whether a rollback is supported.
+    pub others: AnswerList,
     /// Where power is lost.
     pub losses: LossList,
     /// The children that lose their power.
@@ -129,11 +131,24 @@ pub(crate) enum Replying {
     NotStarted,
 }
 
-pub(crate) fn reply_for(script: &Script, query: Query) -> Replying
-    ensures { reply_of result ≡ reply_to script.now query }
+/// Whether this payload supports a rollback.
+fn support_of(script: &Script, payload: u8) -> &Answer
+    ensures { result.now ≡ support_of script.now payload }
+{
+    if payload == 0 {
+        return &script.supports;
+    }
+    match script.others.as_slice().get(usize::from(payload) - 1) {
+        Some(answer) => answer,
+        None => &script.supports,
+    }
+}
+
+pub(crate) fn reply_for(script: &Script, payload: u8, query: Query) -> Replying
+    ensures { reply_of result ≡ reply_to script.now payload query }
 {
     let answer = match query {
-        Query::SupportsRollback => &script.supports,
+        Query::SupportsRollback => support_of(script, payload),
         Query::NeedsArtifactReboot => &script.needs,
     };
     match answer {

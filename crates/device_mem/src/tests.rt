@@ -12,6 +12,7 @@ fn quiet(alloc: Global) -> Script {
         answers: AnswerList::new(alloc),
         supports: Answer::Exit(0),
         needs: Answer::Exit(0),
+        others: AnswerList::new(alloc),
         losses: LossList::new(alloc),
         cuts: CallList::new(alloc),
         faults: CallList::new(alloc),
@@ -170,16 +171,44 @@ fn run<D: Device>(device: &mut D) -> Option<Ran> {
 }
 
 /// The exit code and the first byte of the reply.
-fn ask<D: Device>(device: &mut D, query: Query) -> Option<(u8, Option<u8>)> {
+fn ask<D: Device>(device: &mut D, payload: u8, query: Query) -> Option<(u8, Option<u8>)> {
     let kind = Name::read(b"single-file").ok()?;
     if device.room() < 3 {
         return None;
     }
-    match device.ask_child(0, &kind, query) {
+    match device.ask_child(payload, &kind, query) {
         Asked::Reply(code, text) => Some((code, text.bytes().first().copied())),
         Asked::NotStarted => None,
         Asked::Off => None,
     }
+}
+
+/// Payload 0 replies `Yes`, and two others reply otherwise.
+fn with_others(alloc: Global) -> Result<MemDevice, NoMemory> {
+    let mut script = quiet(alloc);
+    script.supports = Answer::Reply(0, Text32::cut(b"Yes"));
+    script.needs = Answer::Reply(1, Text32::cut(b"Automatic"));
+    script.others.push(Answer::Reply(5, Text32::cut(b"No")))?;
+    script.others.push(Answer::Exit(6))?;
+    device_of(alloc, script)
+}
+
+#[test]
+fn each_payload_replies_for_itself(rt: HostRuntime) -> Result<(), Fail> {
+    let mut device = with_others(rt.alloc())?;
+    let rows = [
+        (0, (0, Some(b'Y'))),
+        (1, (5, Some(b'N'))),
+        (2, (6, None)),
+        (3, (0, Some(b'Y'))),
+    ];
+    for (payload, supports) in rows {
+        let query = Query::SupportsRollback;
+        assert_eq!(rt; ask(&mut device, payload, query), Some(supports));
+        let query = Query::NeedsArtifactReboot;
+        assert_eq!(rt; ask(&mut device, payload, query), Some((1, Some(b'A'))));
+    }
+    Ok(())
 }
 
 fn pause<D: Device>(device: &mut D) -> Option<Result<(), Off>> {
@@ -197,7 +226,7 @@ fn children_end_as_the_script_says(rt: HostRuntime) -> Result<(), Fail> {
         (Query::SupportsRollback, (1, None)),
         (Query::NeedsArtifactReboot, (2, Some(b'A'))),
     ] {
-        assert_eq!(rt; ask(&mut device, query), Some(reply));
+        assert_eq!(rt; ask(&mut device, 0, query), Some(reply));
     }
     for ran in [Ran::Off, Ran::Off] {
         assert_eq!(rt; run(&mut device), Some(ran));

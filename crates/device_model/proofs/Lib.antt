@@ -1,4 +1,5 @@
 pub mod Keeps
+pub mod Passes
 pub mod Refilled
 pub mod Waits
 pub mod Writes

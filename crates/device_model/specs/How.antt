@@ -2,11 +2,11 @@
 use Rattle.std.specs.Prelude.{◌≡◌, ℕ, ◌-◌, Bool, true, false, List, [], ◌∷◌, ◌++◌, length, Option, option_map, Result, Ok, Err}
 use Rattle.upd_text.specs.Counts.{counted}
 use Rattle.device_model.specs.declared.calls.Event.{Event}
-use Rattle.device_model.specs.declared.calls.Event.TheVariants.{Loss}
+use Rattle.device_model.specs.declared.calls.Event.TheVariants.{Start, Loss}
 use Rattle.device_model.specs.declared.calls.Down.{Down}
 use Rattle.device_model.specs.declared.calls.Down.TheVariants.{Off, Fault}
-use Rattle.device_model.specs.Disk.{Disk, AddsNothing, IsTold, area_of}
-use Rattle.device_model.specs.Work.{Work, work_lost}
+use Rattle.device_model.specs.Disk.{Disk, WhereTold, AddsNothing, IsTold, area_of}
+use Rattle.device_model.specs.Work.{Work, work_lost, given_at_start}
 use Rattle.device_model.specs.State.{State}
 
 -- whether it went through, or what cut it off
@@ -42,13 +42,31 @@ abbrev pub work_after : Bool → Option Work → Option Work
 work_after true work = work
 work_after false work = option_map work_lost work
 
--- Nothing was started and the work folder wasn't changed: at most power was lost or the disk failed, and the disk may hold
--- nothing that it couldn't before.
-pub record Waited (how : How) (old new : State) : Type 0 where
+-- whether a child was started
+abbrev pub has_start : List Event → Bool
+has_start [] = false
+has_start (Start c ∷ events) = true
+has_start (e ∷ events) = has_start events
+
+-- where a child was started, what the first one since the last clear was given stays, or is the work folder as it stood
+abbrev pub KeepsGiven : Work → Work → Type 0
+KeepsGiven old new = new.given ≡ given_at_start old.folder old.given
+
+-- by whether a child was started and whether the device is still on: where none was, the work folder changes by a loss alone
+abbrev pub WorksOn : Bool → Bool → Option Work → Option Work → Type 0
+WorksOn true on old new = WhereTold KeepsGiven old new
+WorksOn false on old new = new ≡ work_after on old
+
+-- Nothing but these events happened, whatever became of the disk.
+pub record Passed (events : List Event) (how : How) (old new : State) : Type 0 where
   pub ends : EndsAs how old new
-  pub journal : new.journal ≡ old.journal ++ loss_at new.on
-  pub room : new.room ≡ old.room - length (loss_at new.on)
-  pub work : new.work ≡ work_after new.on old.work
+  pub journal : new.journal ≡ old.journal ++ (events ++ loss_at new.on)
+  pub room : new.room ≡ old.room - length (events ++ loss_at new.on)
+  pub work : WorksOn (has_start events) new.on old.work new.work
+
+-- nothing happened, and the disk may hold nothing that it couldn't before
+pub record Waited (how : How) (old new : State) : Type 0 where
+  pub passed : Passed [] how old new
   pub adds : AddsNothing old.disk new.disk
   pub told : IsTold old.disk → IsTold new.disk
 

@@ -23,13 +23,13 @@ use Rattle.flow_table.specs.Table.{IsRunning, enter_of, undo_of, settled, after_
 use Rattle.flow_table.specs.Laws.{is_fine, IsTrial, Breaks, already, no_rollback, rollback_failed, limit, BreaksAtLoss, already_at_loss, no_rollback_at_loss, limit_at_loss}
 
 -- a valid position, by its fields
-record Fits (s : State) (p : Position) : Type 0 where
-  outcome : is_outcome s p.outcome ≡ true
-  undoable : is_undoable s p.undoable ≡ true
-  reboot : is_reboot s p.reboot ≡ true
-  count : is_count s p.n ≡ true
+pub record Fits (s : State) (p : Position) : Type 0 where
+  pub outcome : is_outcome s p.outcome ≡ true
+  pub undoable : is_undoable s p.undoable ≡ true
+  pub reboot : is_reboot s p.reboot ≡ true
+  pub count : is_count s p.n ≡ true
 
-fits_of : (p : Position) → is_valid p ≡ true → Fits p.state p
+pub fits_of : (p : Position) → is_valid p ≡ true → Fits p.state p
 fits_of p v =
     let a = and_parts _ _ v in
     let b = and_parts _ _ a.0 in
@@ -40,10 +40,10 @@ valid_from : (p : Position) → Fits p.state p → is_valid p ≡ true
 valid_from p f = and_from _ _ (and_from _ _ (and_from _ _ f.outcome f.undoable) f.reboot) f.count
 
 -- a number of states that a valid position has
-abbrev InRange : ℕ → Type 0
+abbrev pub InRange : ℕ → Type 0
 InRange n = (1 ≤ n) × (n ≤ 28)
 
-in_range : (s : State) (n : ℕ) → is_count s n ≡ true → InRange n
+pub in_range : (s : State) (n : ℕ) → is_count s n ≡ true → InRange n
 unfolding is_count
 in_range Download n e = grind (arith, nat_tests)
 in_range Install n e = grind (arith, nat_tests)

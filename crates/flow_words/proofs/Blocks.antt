@@ -20,16 +20,16 @@ module _ {t : Course Bool} (x : List ℕ) {old mid new : State} where
   pub block-ends : (n : ℕ) (a : Answer) (good : Bool) → Reaches t old (block x n) mid → Finishes (child (Script x)) a mid new → is_retry a ≡ false → is_success a ≡ good → Finishes t good old new
   unfolding block
   block-ends zero a good h i e s =
-      let r = Reaches-child h i in subst (λ b. Finishes t b old new) s (r.finishes (is_success a) new (Finishes-done (is_success a) new i.stretch.ends.on))
+      let r = Reaches-child h i in subst (λ b. Finishes t b old new) s (r.finishes (is_success a) new (Finishes-done (is_success a) new i.stretch.passed.ends.on))
   block-ends (suc n) a good h i e s =
       let r = rw e at (Reaches-child h i) in
-      subst (λ b. Finishes t b old new) s (r.finishes (is_success a) new (Finishes-done (is_success a) new i.stretch.ends.on))
+      subst (λ b. Finishes t b old new) s (r.finishes (is_success a) new (Finishes-done (is_success a) new i.stretch.passed.ends.on))
 
   -- the last try
   pub block-last : (n : ℕ) (a : Answer) (good : Bool) → n ≡ 0 → Reaches t old (block x n) mid → Finishes (child (Script x)) a mid new → is_success a ≡ good → Finishes t good old new
   unfolding block
   block-last zero a good z h i s =
-      let r = Reaches-child h i in subst (λ b. Finishes t b old new) s (r.finishes (is_success a) new (Finishes-done (is_success a) new i.stretch.ends.on))
+      let r = Reaches-child h i in subst (λ b. Finishes t b old new) s (r.finishes (is_success a) new (Finishes-done (is_success a) new i.stretch.passed.ends.on))
   block-last (suc n) a good z h i s = cc
 
   -- a try whose answer asks for another

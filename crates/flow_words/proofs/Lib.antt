@@ -5,3 +5,14 @@ pub mod Stretches
 pub mod Reach
 pub mod Blocks
 pub mod Runs
+pub mod StateCalls
+pub mod PieceLemmas
+pub mod Splits
+pub mod Outcomes
+pub mod WellLemmas
+pub mod PieceLaws
+pub mod StepLaws
+pub mod AgreeLemmas
+pub mod Payloads
+pub mod Powered
+pub mod RunForms

@@ -19,7 +19,7 @@ module _ {t : Course Bool} {old mid : State} (due : List (List ℕ)) (mode : Mod
   run-more f = Reaches-more (rest names mode) reached f
 
   pub run-fails : {new : State} → Finishes (step name mode) false mid new → Finishes t false old new
-  run-fails {new} f = (Reaches-more (rest names mode) reached f).finishes false new (Finishes-done false new f.stretch.ends.on)
+  run-fails {new} f = (Reaches-more (rest names mode) reached f).finishes false new (Finishes-done false new f.stretch.passed.ends.on)
 
   pub run-stop : {new : State} → Stops (step name mode) mid new → Stops t old new
   run-stop s = Reaches-stop (rest names mode) reached s

@@ -4,3 +4,15 @@ pub mod Scripts
 pub mod Blocks
 pub mod Stretch
 pub mod Examples
+pub mod Rows
+pub mod Words
+pub mod Pieces
+pub mod Counting
+pub mod Power
+pub mod RunLists
+pub mod Causes
+pub mod Well
+pub mod Decided
+pub mod StateExamples
+pub mod Steps
+pub mod Agrees

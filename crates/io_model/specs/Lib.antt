@@ -2,3 +2,4 @@ pub mod Sink
 pub mod MemSink
 pub mod Source
 pub mod MemSource
+pub mod Reading

@@ -2,11 +2,12 @@
 use Rattle.std.specs.Prelude.{ℕ, ◌==◌, Bool, if◌then◌else◌, List}
 use Rattle.std.specs.List.{list_any}
 use Rattle.upd_text.specs.Counts.{counted}
-use Rattle.io_model.specs.Source.{Tree}
+use Rattle.io_model.specs.Source.{Tree, gave}
 
--- the files, the calls that fail, and how many calls there were and how many of them failed
+-- the files, how many bytes were given of each, the calls that fail, and how many calls there were and how many of them failed
 pub record Shelf : Type 0 where
   pub tree : Tree
+  pub given : List ℕ
   pub failing : List ℕ
   pub calls : ℕ
   pub faults : ℕ
@@ -21,3 +22,10 @@ after_call s =
     if fails s
     then record s { calls = counted s.calls; faults = counted s.faults }
     else record s { calls = counted s.calls }
+
+-- what a `read` of file i leaves that has room for n bytes: where it doesn't fail, it gives all of them
+abbrev pub after_reading : ℕ → ℕ → Shelf → Shelf
+after_reading i n s =
+    if fails s
+    then after_call s
+    else record s { calls = counted s.calls; given = gave i n s.given }

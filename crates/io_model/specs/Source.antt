@@ -1,7 +1,7 @@
--- What a source means: its files, where it tells them, and how often it failed.
-use Rattle.std.specs.Prelude.{◌≡◌, ℕ, ◌+◌, ◌≤◌, List, [], Option, Result, Ok, Err, length, take, drop, slice_get}
+-- What a source means: its files, where it tells them, how much was read of each, and how often it failed.
+use Rattle.std.specs.Prelude.{◌≡◌, ℕ, ◌+◌, ◌<◌, ◌≤◌, List, [], Option, Some, None, Result, Ok, Err, length, take, drop, slice_get, get_or, set, option_map}
 use Rattle.std.specs.Option.{option_map_or, option_and_then}
-use Rattle.upd_text.specs.Counts.{counted}
+use Rattle.upd_text.specs.Counts.{counted, raised}
 use Rattle.io_model.specs.declared.source.SourceFault.{SourceFault}
 
 -- a path that is a name, or none, and the bytes
@@ -51,3 +51,19 @@ InFile (Told t) i at len = at + len ≤ length (bytes_at t i)
 abbrev pub IsPart : Content → ℕ → ℕ → List ℕ → Type 0
 IsPart (Untold n) i at bytes = Unit {0}
 IsPart (Told t) i at bytes = bytes ≡ take (length bytes) (drop at (bytes_at t i))
+
+-- ---- how many bytes of each file `read` has given, one number a file
+
+-- so many more of file i
+abbrev pub gave : ℕ → ℕ → List ℕ → List ℕ
+gave i n given = set given i (raised (get_or given i 0) n)
+
+-- what a `read` of file i leaves, by its answer
+abbrev pub after_read : ℕ → Result ℕ SourceFault → Option (List ℕ) → Option (List ℕ)
+after_read i (Ok n) given = option_map (gave i n) given
+after_read i (Err e) given = given
+
+-- there is a number for file i, where they are told
+abbrev pub HasNumber : ℕ → Option (List ℕ) → Type 0
+HasNumber i None = Unit {0}
+HasNumber i (Some given) = i < length given

@@ -1,12 +1,14 @@
 //! Where texts are written, and where trees are read.
 #![tactic(auto)]
 
+mod line;
 mod mem_sink;
 mod mem_source;
 mod no_sink;
 mod sink;
 mod source;
 
+pub use line::{LONGEST_LINE, Line};
 pub use mem_sink::MemSink;
 pub use mem_source::{FileList, MemSource, TreeFile};
 pub use no_sink::NoSink;

@@ -1,12 +1,13 @@
 //! A source in memory.
 
-ghost use Rattle.std.specs.Prelude.{◌≡◌, ◌<◌, ◌≤◌, ◌+◌, ◌==◌, ◌^◌, [], ◌∷◌, ◌++◌, length, take, slice_get, Some, IfOk, OnOk, OnErr};
+ghost use Rattle.std.specs.Prelude.{◌≡◌, ◌<◌, ◌≤◌, ◌+◌, ◌==◌, ◌^◌, [], ◌∷◌, ◌++◌, length, take, get_or, replicate, slice_get, Some, IfOk, OnOk, OnErr};
 ghost use Rattle.std.specs.List.{list_any};
 ghost use Rattle.std.specs.Option.{option_copied};
 ghost use Rattle.std.specs.Result.{result_ok, is_err};
 ghost use Rattle.upd_text.specs.Text.{name_of};
-ghost use Rattle.io_model.specs.Source.{Counts, IsPart, path_at, bytes_at};
-ghost use Rattle.io_model.specs.MemSource.{fails, after_call};
+ghost use Rattle.upd_text.specs.Counts.{raised};
+ghost use Rattle.io_model.specs.Source.{Counts, IsPart, path_at, bytes_at, after_read};
+ghost use Rattle.io_model.specs.MemSource.{fails, after_call, after_reading};
 
 use crate::source::{Source, SourceFault};
 use std::alloc::Global;
@@ -57,19 +58,24 @@ impl TreeFile {
     }
 }
 
-/// A list of files, which contracts see as the list of their paths and bytes.
+/// A list of files, which contracts see as the list of their paths and bytes. It has the room for
+/// what a source counts of each.
 #[derive(Drop)]
 pub struct FileList {
     files: ListOf<TreeFile>,
+    given: Vec<u64>,
     alloc: Global,
 }
 
 impl Model for FileList {
+    ghost use Rattle.std.specs.Prelude.{◌≡◌, length, replicate};
     ghost use Rattle.io_model.specs.Source.{Tree};
 
     ghost Value = { Tree };
 
     ghost view = { λ l. l.files };
+
+    ghost invariant = { λ l. l.given.items ≡ replicate (length l.files) 0 };
 }
 
 impl FileList {
@@ -79,6 +85,7 @@ impl FileList {
     {
         FileList {
             files: ListOf::new(alloc),
+            given: Vec::new(alloc),
             alloc,
         }
     }
@@ -107,7 +114,10 @@ impl FileList {
     {
         let bytes = Vec::from_slice(self.alloc, bytes)?;
         let path = Name::read(path).ok();
-        self.files.push(TreeFile { path, bytes })
+        self.given.reserve(1)?;
+        self.files.push(TreeFile { path, bytes })?;
+        self.given.push(0).unwrap();
+        Ok(())
     }
 }
 
@@ -115,34 +125,44 @@ impl FileList {
 /// and `read` are counted from 0. Where no call is to fail, it counted no fault.
 #[derive(Drop)]
 pub struct MemSource {
-    files: FileList,
+    files: ListOf<TreeFile>,
+    given: Vec<u64>,
     failing: CallList,
     calls: u64,
     faults: u64,
 }
 
 impl Model for MemSource {
-    ghost use Rattle.std.specs.Prelude.{◌≡◌, []};
+    ghost use Rattle.std.specs.Prelude.{◌≡◌, [], length};
     ghost use Rattle.io_model.specs.MemSource.{Shelf};
 
     ghost Value = { Shelf };
 
-    ghost view = { λ s. record { tree = s.files; failing = s.failing; calls = s.calls; faults = s.faults } };
+    ghost view = { λ s. record { tree = s.files; given = s.given.items; failing = s.failing; calls = s.calls; faults = s.faults } };
 
-    ghost invariant = { λ s. s.failing ≡ [] → s.faults ≡ 0 };
+    ghost invariant = { λ s. (length s.given.items ≡ length s.files) × (s.failing ≡ [] → s.faults ≡ 0) };
 }
 
 impl MemSource {
-    /// A source of these files, of which no call was made.
+    /// A source of these files, of which no call was made and no byte given.
     pub fn new(files: FileList, failing: CallList) -> MemSource
-        ensures { result ≡ record { tree = files; failing = failing; calls = 0; faults = 0 } }
+        ensures { result ≡ record { tree = files; given = replicate (length files) 0; failing = failing; calls = 0; faults = 0 } }
     {
         MemSource {
-            files,
+            files: files.files,
+            given: files.given,
             failing,
             calls: 0,
             faults: 0,
         }
+    }
+
+    /// How many bytes `read` has given of the file at an index. Condition: it is below `files`.
+    pub fn given(&self, i: u32) -> u64
+        requires { i < length self.now.tree }
+        ensures { result ≡ get_or self.now.given i 0 }
+    {
+        self.given[i as usize]
     }
 
     /// Counts a call, and fails where its number is in the list.
@@ -151,7 +171,9 @@ impl MemSource {
         ensures leaves { self.new ≡ after_call self.old }
         ensures counts { Counts self.old.faults result self.new.faults }
         ensures tree { self.new.tree ≡ self.old.tree }
+        ensures given { self.new.given ≡ self.old.given }
         ensures plan { self.new.failing ≡ self.old.failing }
+        ensures numbered { length self.new.given ≡ length self.new.tree }
     {
         let fails = is_among(self.failing.as_slice(), self.calls);
         self.calls = self.calls.saturating_add(1);
@@ -161,6 +183,13 @@ impl MemSource {
         }
         Ok(())
     }
+}
+
+#[tactic(auto, unfolding(upd_text::specs::Counts::raised))]
+fn raised(count: u64, more: usize) -> u64
+    ensures { result ≡ raised count more }
+{
+    count.saturating_add(more as u64)
 }
 
 fn is_among(list: &[u64], n: u64) -> bool
@@ -176,6 +205,8 @@ impl Source for MemSource {
     ghost use Rattle.io_model.specs.Source.Content.{Told};
 
     ghost content = { λ s. Told s.tree };
+
+    ghost given = { λ s. Some s.given };
 
     ghost faults = { λ s. s.faults };
 
@@ -194,6 +225,7 @@ impl Source for MemSource {
         requires { i < length self.old.tree }
         ensures same { Told self.new.tree ≡ Told self.old.tree }
         ensures plan { Some self.new.failing ≡ Some self.old.failing }
+        ensures given { Some self.new.given ≡ Some self.old.given }
         ensures counts { Counts self.old.faults result self.new.faults }
         ensures value { IfOk result (λ p. p ≡ path_at self.old.tree i) }
 
@@ -209,6 +241,8 @@ impl Source for MemSource {
         requires { i < length self.old.tree }
         ensures same { Told self.new.tree ≡ Told self.old.tree }
         ensures plan { Some self.new.failing ≡ Some self.old.failing }
+        ensures given { Some self.new.given ≡ Some self.old.given }
+        ensures numbered { i < length self.new.given }
         ensures counts { Counts self.old.faults result self.new.faults }
         ensures short { IfOk result (λ n. n < 2 ^ 60) }
         ensures value { IfOk result (λ n. n ≡ length (bytes_at self.old.tree i)) }
@@ -227,6 +261,7 @@ impl Source for MemSource {
         requires part { at + length into.old ≤ length (bytes_at self.old.tree i) }
         ensures same { Told self.new.tree ≡ Told self.old.tree }
         ensures plan { Some self.new.failing ≡ Some self.old.failing }
+        ensures given { Some self.new.given ≡ after_read i result (Some self.old.given) }
         ensures counts { Counts self.old.faults result self.new.faults }
         ensures some { IfOk result (λ n. 0 < n) }
         ensures most { IfOk result (λ n. n ≤ length into.old) }
@@ -234,7 +269,7 @@ impl Source for MemSource {
 
         // It fails exactly where its number is in the list, and fills `into` otherwise.
         ensures exact { is_err result ≡ fails self.old }
-        ensures leaves { self.new ≡ after_call self.old }
+        ensures leaves { self.new ≡ after_reading i (length into.old) self.old }
         ensures fills { IfOk result (λ n. n ≡ length into.old) }
         ensures kept { OnErr result (into.new ≡ into.old) }
     {
@@ -242,6 +277,7 @@ impl Source for MemSource {
         let bytes = self.files.at(i).bytes();
         let from = at as usize;
         into.copy_from_slice(&bytes[from..from + into.len()]);
+        self.given[i as usize] = raised(self.given[i as usize], into.len());
         Ok(into.len())
     }
 }

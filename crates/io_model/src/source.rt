@@ -10,14 +10,18 @@ pub struct SourceFault;
 /// the files. A call answers `SourceFault` only where it raised the count of faults by one, or the
 /// count stands at the end of its type.
 pub trait Source {
-    ghost use Rattle.std.specs.Prelude.{ℕ, Option, ◌≡◌, ◌<◌, ◌≤◌, ◌^◌, length, take, IfOk};
-    ghost use Rattle.io_model.specs.Source.{Content, count_of, Counts, IsPath, IsLength, InFile, IsPart};
+    ghost use Rattle.std.specs.Prelude.{ℕ, List, Option, ◌≡◌, ◌<◌, ◌≤◌, ◌^◌, length, take, IfOk};
+    ghost use Rattle.io_model.specs.Source.{Content, count_of, Counts, IsPath, IsLength, InFile, IsPart, after_read, HasNumber};
 
     /// What the source was set up to do, as plain data.
     type Plan;
 
     /// The files, where it tells them, or else their number. No call changes it.
     ghost content: { Self → Content };
+
+    /// For each file how many bytes `read` has given, where the source tells it. A number stays at
+    /// the end of its type. No other call changes it.
+    ghost given: { Self → Option (List ℕ) };
 
     /// How often a call failed.
     ghost faults: { Self → ℕ };
@@ -35,6 +39,7 @@ pub trait Source {
         requires { i < count_of (content self.old) }
         ensures same { content self.new ≡ content self.old }
         ensures plan { plan self.new ≡ plan self.old }
+        ensures given { given self.new ≡ given self.old }
         ensures counts { Counts (faults self.old) result (faults self.new) }
         ensures value { IfOk result (λ p. IsPath (content self.old) i p) };
 
@@ -43,6 +48,8 @@ pub trait Source {
         requires { i < count_of (content self.old) }
         ensures same { content self.new ≡ content self.old }
         ensures plan { plan self.new ≡ plan self.old }
+        ensures given { given self.new ≡ given self.old }
+        ensures numbered { HasNumber i (given self.new) }
         ensures counts { Counts (faults self.old) result (faults self.new) }
         ensures short { IfOk result (λ n. n < 2 ^ 60) }
         ensures value { IfOk result (λ n. IsLength (content self.old) i n) };
@@ -57,6 +64,7 @@ pub trait Source {
         requires part { InFile (content self.old) i at (length into.old) }
         ensures same { content self.new ≡ content self.old }
         ensures plan { plan self.new ≡ plan self.old }
+        ensures given { given self.new ≡ after_read i result (given self.old) }
         ensures counts { Counts (faults self.old) result (faults self.new) }
         ensures some { IfOk result (λ n. 0 < n) }
         ensures most { IfOk result (λ n. n ≤ length into.old) }

@@ -117,6 +117,8 @@ impl Source for Zeros {
 
     ghost content = { λ z. Untold 1 };
 
+    ghost given = { λ z. None };
+
     ghost faults = { λ z. 0 };
 
     ghost plan = { λ z. None };

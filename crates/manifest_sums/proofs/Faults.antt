@@ -6,7 +6,8 @@ use Rattle.std.proofs.lemmas.Slice.Eq.{bytes_eq-Decides}
 use Rattle.std.specs.List.{Any, list_any}
 use Rattle.std.specs.Option.{ok_or}
 use Rattle.manifest_sums.specs.Spelling.{Begins, IsWrong, is_packed}
-use Rattle.manifest_sums.specs.Manifest.{has_path, first_line, unless_bad, line_at, lines_after, ◌>>=◌}
+use Rattle.manifest_sums.specs.Manifest.{has_path, next_line, unless_bad, line_at, lines_after}
+use Rattle.upd_text.specs.Results.{◌>>=◌}
 use Rattle.manifest_sums.specs.declared.manifest.Line.{Line}
 use Rattle.manifest_sums.specs.declared.manifest.ManifestFault.{ManifestFault}
 use Rattle.manifest_sums.specs.declared.manifest.ManifestFault.TheVariants.{BadLine, PackedHeader, Doubled, TooMany, NoMemory}
@@ -77,7 +78,7 @@ bad_line : (found : List Line) (rest more : List ℕ) (line : Line) (fault : Man
 unfolding unless_bad
 bad_line found rest more line fault b lt h = bad_by (is_packed line) (list_any (has_path line.path) found) found rest more line fault refl refl b lt h
 
-wrong_by : (o : Option (Line × List ℕ)) (found : List Line) (rest : List ℕ) (fault : ManifestFault) → first_line rest ≡ o → length found < 256 → 0 < length rest → (ok_or o (BadLine (length found + 1)) >>= λ first. unless_bad found first.0 >>= λ good. Ok (paired good first.1)) ≡ Err fault → IsWrong found rest fault
+wrong_by : (o : Option (Line × List ℕ)) (found : List Line) (rest : List ℕ) (fault : ManifestFault) → next_line rest ≡ o → length found < 256 → 0 < length rest → (ok_or o (BadLine (length found + 1)) >>= λ first. unless_bad found first.0 >>= λ good. Ok (paired good first.1)) ≡ Err fault → IsWrong found rest fault
 wrong_by None found rest fault f lt some h =
     let e : BadLine (length found + 1) ≡ fault = cc in
     let w : IsWrong found rest (BadLine (length found + 1)) = (refl, lt, some, λ line more b. let c : None ≡ Some (paired line more) = sym f ∙ spelled_first rest more line b in cc) in
@@ -90,19 +91,19 @@ wrong_by (Some r) found rest fault f lt some h =
 
 pub line_wrong : (found : List Line) (rest : List ℕ) (fault : ManifestFault) → length found < 256 → 0 < length rest → line_at found rest ≡ Err fault → IsWrong found rest fault
 unfolding line_at
-line_wrong found rest fault lt some h = wrong_by (first_line rest) found rest fault refl lt some h
+line_wrong found rest fault lt some h = wrong_by (next_line rest) found rest fault refl lt some h
 
 -- ---- what a wrong line gives
 
-none_from : (o : Option (Line × List ℕ)) (rest : List ℕ) → first_line rest ≡ o → ((line : Line) (more : List ℕ) → ¬ (Begins rest (line ∷ []) more)) → o ≡ None
+none_from : (o : Option (Line × List ℕ)) (rest : List ℕ) → next_line rest ≡ o → ((line : Line) (more : List ℕ) → ¬ (Begins rest (line ∷ []) more)) → o ≡ None
 none_from None rest f h = refl
 none_from (Some r) rest f h = absurd (h r.0 r.1 (first_spelled rest r.1 r.0 f))
 
-bad_at : (found : List Line) (rest : List ℕ) → first_line rest ≡ None → line_at found rest ≡ Err (BadLine (length found + 1))
+bad_at : (found : List Line) (rest : List ℕ) → next_line rest ≡ None → line_at found rest ≡ Err (BadLine (length found + 1))
 unfolding line_at
 bad_at found rest f = ap (λ o. ok_or o (BadLine (length found + 1)) >>= λ first. unless_bad found first.0 >>= λ good. Ok (paired good first.1)) f
 
-refused_at : (found : List Line) (rest more : List ℕ) (line : Line) (fault : ManifestFault) → first_line rest ≡ Some (paired line more) → unless_bad found line ≡ Err fault → line_at found rest ≡ Err fault
+refused_at : (found : List Line) (rest more : List ℕ) (line : Line) (fault : ManifestFault) → next_line rest ≡ Some (paired line more) → unless_bad found line ≡ Err fault → line_at found rest ≡ Err fault
 unfolding line_at
 refused_at found rest more line fault f u =
     ap (λ o. ok_or o (BadLine (length found + 1)) >>= λ first. unless_bad found first.0 >>= λ good. Ok (paired good first.1)) f
@@ -123,7 +124,7 @@ stop_at lines bytes rest fault b r lt some e =
 
 pub stop : (fault : ManifestFault) (lines : List Line) (bytes rest : List ℕ) → Begins bytes lines rest → RightAfter [] lines → IsWrong lines rest fault → lines_after 256 [] bytes ≡ Err fault
 stop (BadLine k) lines bytes rest b r w =
-    stop_at lines bytes rest (BadLine k) b r w.1 w.2 (bad_at lines rest (none_from (first_line rest) rest refl w.3) ∙ ap (λ n. Err (BadLine n)) (sym w.0))
+    stop_at lines bytes rest (BadLine k) b r w.1 w.2 (bad_at lines rest (none_from (next_line rest) rest refl w.3) ∙ ap (λ n. Err (BadLine n)) (sym w.0))
 stop (PackedHeader k) lines bytes rest b r w =
     stop_at lines bytes rest (PackedHeader k) b r w.1 (line_some rest w.3 w.2 w.4) (refused_at lines rest w.3 w.2 _ (spelled_first rest w.3 w.2 w.4) (packed_refused lines w.2 w.5) ∙ ap (λ n. Err (PackedHeader n)) (sym w.0))
 stop (Doubled k) lines bytes rest b r w =

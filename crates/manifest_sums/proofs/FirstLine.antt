@@ -17,7 +17,7 @@ use Rattle.upd_text.specs.declared.fault.NameFault.{NameFault}
 use Rattle.upd_text.specs.declared.fault.NameFault.TheVariants.{Empty, TooLong}
 use Rattle.upd_text.proofs.FormLemmas.{name_is}
 use Rattle.manifest_sums.specs.Spelling.{SpellsSum, SpellsLine, Begins}
-use Rattle.manifest_sums.specs.Manifest.{is_newline, sum_of, with_path, with_sum, line_of, first_line}
+use Rattle.manifest_sums.specs.Manifest.{is_newline, sum_of, with_path, with_sum, line_of, next_line}
 use Rattle.manifest_sums.specs.declared.manifest.Line.{Line}
 
 -- ---- where the newline stands
@@ -135,14 +135,14 @@ line_spelled text line h =
 abbrev pub paired : Line → List ℕ → Line × List ℕ
 paired line rest = (line, rest)
 
-first_from : (bytes rest : List ℕ) (line : Line) (at : ℕ) → position is_newline bytes ≡ Some at → line_of (take at bytes) ≡ Some line → drop 1 (drop at bytes) ≡ rest → first_line bytes ≡ Some (line, rest)
-unfolding first_line
+first_from : (bytes rest : List ℕ) (line : Line) (at : ℕ) → position is_newline bytes ≡ Some at → line_of (take at bytes) ≡ Some line → drop 1 (drop at bytes) ≡ rest → next_line bytes ≡ Some (line, rest)
+unfolding next_line
 first_from bytes rest line at p q r =
     ap (λ o. option_and_then (λ i. option_map (λ l. (l, drop 1 (drop i bytes))) (line_of (take i bytes))) o) p
     ∙ ap (λ o. option_map (λ l. (l, drop 1 (drop at bytes))) o) q
     ∙ ap (λ x. Some (line, x)) r
 
-pub spelled_first : (bytes rest : List ℕ) (line : Line) → Begins bytes (line ∷ []) rest → first_line bytes ≡ Some (line, rest)
+pub spelled_first : (bytes rest : List ℕ) (line : Line) → Begins bytes (line ∷ []) rest → next_line bytes ≡ Some (line, rest)
 spelled_first bytes rest line b =
     let s : SpellsLine b.0 line = b.3 in
     let front = s.digits ++ codes "  " ++ line.path in
@@ -163,8 +163,8 @@ first_parts : (o : Option ℕ) (bytes : List ℕ) (line : Line) (rest : List ℕ
 first_parts None bytes line rest h = absurd cc
 first_parts (Some at) bytes line rest h = let w = with_rest (line_of (take at bytes)) (drop 1 (drop at bytes)) line rest h in (at, refl, w.0, w.1)
 
-pub first_spelled : (bytes rest : List ℕ) (line : Line) → first_line bytes ≡ Some (line, rest) → Begins bytes (line ∷ []) rest
-unfolding first_line
+pub first_spelled : (bytes rest : List ℕ) (line : Line) → next_line bytes ≡ Some (line, rest) → Begins bytes (line ∷ []) rest
+unfolding next_line
 first_spelled bytes rest line h =
     let f = first_parts (position is_newline bytes) bytes line rest h in
     let at = f.0 in

@@ -5,7 +5,8 @@ use Rattle.std.specs.Prelude.{codes}
 use Rattle.std.specs.List.{list_any}
 use Rattle.std.specs.Option.{ok_or}
 use Rattle.manifest_sums.specs.Spelling.{SpellsLine, Begins, is_packed}
-use Rattle.manifest_sums.specs.Manifest.{has_path, first_line, unless_bad, line_at, lines_after, ◌>>=◌}
+use Rattle.manifest_sums.specs.Manifest.{has_path, next_line, unless_bad, line_at, lines_after}
+use Rattle.upd_text.specs.Results.{◌>>=◌}
 use Rattle.manifest_sums.specs.declared.manifest.Line.{Line}
 use Rattle.manifest_sums.specs.declared.manifest.ManifestFault.{ManifestFault}
 use Rattle.manifest_sums.specs.declared.manifest.ManifestFault.TheVariants.{BadLine, PackedHeader, Doubled}
@@ -23,7 +24,7 @@ line_some bytes more line b =
     let front = s.digits ++ codes "  " ++ line.path in
     omega (arith, ap length b.2, ap length s.parts, length-append b.0 b.1, length-append front (10 ∷ []))
 
-pub good_line : (found : List Line) (bytes rest : List ℕ) (line : Line) → first_line bytes ≡ Some (line, rest) → is_packed line ≡ false → list_any (has_path line.path) found ≡ false → line_at found bytes ≡ Ok (line, rest)
+pub good_line : (found : List Line) (bytes rest : List ℕ) (line : Line) → next_line bytes ≡ Some (line, rest) → is_packed line ≡ false → list_any (has_path line.path) found ≡ false → line_at found bytes ≡ Ok (line, rest)
 unfolding line_at unless_bad
 good_line found bytes rest line f p n =
     let good : unless_bad found line ≡ Ok line = rw (p, n) refl in
@@ -51,7 +52,7 @@ bind_ok (Ok x) f y h = (x, refl, h)
 bind_ok (Err e) f y h = cc h
 
 pub record GoodLine (found : List Line) (bytes : List ℕ) (line : Line) (rest : List ℕ) : Type 0 where
-  pub first : first_line bytes ≡ Some (line, rest)
+  pub first : next_line bytes ≡ Some (line, rest)
   pub unpacked : is_packed line ≡ false
   pub fresh : list_any (has_path line.path) found ≡ false
 
@@ -75,9 +76,9 @@ first_by (Some r) found p h =
 pub line_parts : (found : List Line) (bytes rest : List ℕ) (line : Line) → line_at found bytes ≡ Ok (line, rest) → GoodLine found bytes line rest
 unfolding line_at
 line_parts found bytes rest line h =
-    let f = first_by (first_line bytes) found (line, rest) h in
+    let f = first_by (next_line bytes) found (line, rest) h in
     let g = good_parts found f.0.0 line f.2 in
-    let first : first_line bytes ≡ Some (line, rest) = f.1 ∙ ap (λ l. Some (paired l f.0.1)) g.2 ∙ ap (λ r. Some (paired line r)) f.3 in
+    let first : next_line bytes ≡ Some (line, rest) = f.1 ∙ ap (λ l. Some (paired l f.0.1)) g.2 ∙ ap (λ r. Some (paired line r)) f.3 in
     record {
       first = first;
       unpacked = ap is_packed (sym g.2) ∙ g.0;

@@ -1,6 +1,7 @@
 -- One line after another.
 use Rattle.std.proofs.Common.{◌≡◌, ℕ, ◌+◌, ◌<◌, ◌∙◌, List, [], ◌∷◌, ◌++◌, length, Ok, Err, refl, ap, arith, zero, suc}
-use Rattle.manifest_sums.specs.Manifest.{line_at, lines_after, ◌>>=◌}
+use Rattle.manifest_sums.specs.Manifest.{line_at, lines_after}
+use Rattle.upd_text.specs.Results.{◌>>=◌}
 use Rattle.manifest_sums.specs.declared.manifest.Line.{Line}
 use Rattle.manifest_sums.specs.declared.manifest.ManifestFault.{ManifestFault}
 use Rattle.manifest_sums.specs.declared.manifest.ManifestFault.TheVariants.{TooMany}

@@ -16,7 +16,7 @@ use Rattle.hex.specs.Hex.{decode_sized, encode_lower, is_hex_digit, IsBytes}
 use Rattle.hex.specs.declared.error.FromHexError.{FromHexError}
 use Rattle.hex.proofs.HexLemmas.{IsOk-decode_sized, decode_sized-encode_lower}
 use Rattle.manifest_sums.specs.Spelling.{SpellsSum, AreRight, IsManifest, IsFirstFault, IsWrong, Begins, is_packed}
-use Rattle.manifest_sums.specs.Manifest.{has_path, sum_of, most_lines, manifest_of, Gives}
+use Rattle.manifest_sums.specs.Manifest.{has_path, sum_of, most_lines, manifest_of, Answers}
 use Rattle.manifest_sums.specs.declared.manifest.Line.{Line}
 use Rattle.manifest_sums.specs.declared.manifest.ManifestFault.{ManifestFault}
 use Rattle.manifest_sums.specs.declared.manifest.ManifestFault.TheVariants.{TooMany, NoMemory}
@@ -96,15 +96,15 @@ manifest_fault bytes fault = (fault_found bytes fault, fault_only bytes fault)
 
 -- ---- what the call answers
 
-pub gives_found : (r : Result (List Line) ManifestFault) (bytes : List ℕ) → Gives r (manifest_of bytes) → IfOk r (λ lines. IsManifest bytes lines)
+pub gives_found : (r : Result (List Line) ManifestFault) (bytes : List ℕ) → Answers r (manifest_of bytes) → IfOk r (λ lines. IsManifest bytes lines)
 gives_found (Ok lines) bytes h = manifest_found bytes lines h
 gives_found (Err e) bytes h = tt
 
-pub gives_refused : (r : Result (List Line) ManifestFault) (bytes : List ℕ) → Gives r (manifest_of bytes) → IfErr r (λ e. (e ≡ NoMemory) ⊎ IsFirstFault bytes e)
+pub gives_refused : (r : Result (List Line) ManifestFault) (bytes : List ℕ) → Answers r (manifest_of bytes) → IfErr r (λ e. (e ≡ NoMemory) ⊎ IsFirstFault bytes e)
 gives_refused (Ok lines) bytes h = tt
 gives_refused (Err e) bytes h = elim h [ inl m ↦ inl m | inr f ↦ inr (fault_found bytes e f) ]
 
-pub gives_only : (r : Result (List Line) ManifestFault) (bytes : List ℕ) → Gives r (manifest_of bytes) → (lines : List Line) → IsManifest bytes lines → (r ≡ Ok lines) ⊎ (r ≡ Err NoMemory)
+pub gives_only : (r : Result (List Line) ManifestFault) (bytes : List ℕ) → Answers r (manifest_of bytes) → (lines : List Line) → IsManifest bytes lines → (r ≡ Ok lines) ⊎ (r ≡ Err NoMemory)
 gives_only (Ok found) bytes h lines m = inl (sym h ∙ manifest_only bytes lines m)
 gives_only (Err e) bytes h lines m =
     elim h [

@@ -1,21 +1,17 @@
 -- What the reader of a manifest answers, as a function of the bytes.
-use Rattle.std.specs.Prelude.{◌⊎◌, zero, suc, ◌≡◌, ℕ, ◌+◌, ◌==◌, nat_lt, Bool, if◌then◌else◌, List, [], ◌∷◌, ◌++◌, length, take, drop, codes, Option, Some, None, Result, Ok, Err, position}
+use Rattle.std.specs.Prelude.{zero, suc, ℕ, ◌+◌, ◌==◌, nat_lt, Bool, if◌then◌else◌, List, [], ◌∷◌, ◌++◌, length, take, drop, codes, Option, Some, None, Result, Ok, Err, position}
 use Rattle.std.specs.List.{list_any}
 use Rattle.std.specs.Option.{ok_or, option_map, option_and_then}
 use Rattle.std.specs.Result.{result_ok}
 use Rattle.std.specs.Str.{bytes_eq}
 use Rattle.hex.specs.Hex.{decode_sized}
 use Rattle.upd_text.specs.Text.{name_of}
+use Rattle.upd_text.specs.Results.{◌>>=◌, Gives}
 use Rattle.upd_text.specs.declared.fault.NameFault.{NameFault}
 use Rattle.manifest_sums.specs.Spelling.{is_packed}
 use Rattle.manifest_sums.specs.declared.manifest.Line.{Line}
 use Rattle.manifest_sums.specs.declared.manifest.ManifestFault.{ManifestFault}
 use Rattle.manifest_sums.specs.declared.manifest.ManifestFault.TheVariants.{BadLine, Doubled, PackedHeader, TooMany, NoMemory}
-
-infixl 10 ◌>>=◌
-abbrev pub ◌>>=◌ : {A B : Type 0} → Result A ManifestFault → (A → Result B ManifestFault) → Result B ManifestFault
-(Ok x) >>= f = f x
-(Err e) >>= f = Err e
 
 abbrev pub is_newline : ℕ → Bool
 is_newline b = b == 10
@@ -37,8 +33,8 @@ unfoldable pub line_of : List ℕ → Option Line
 line_of text = if nat_lt (length text) 66 then None else (if bytes_eq (take 2 (drop 64 text)) (codes "  ") then with_sum (sum_of (take 64 text)) (drop 2 (drop 64 text)) else None)
 
 -- the line up to the first newline, and what follows the newline
-unfoldable pub first_line : List ℕ → Option (Line × List ℕ)
-first_line bytes = option_and_then (λ at. option_map (λ line. (line, drop 1 (drop at bytes))) (line_of (take at bytes))) (position is_newline bytes)
+unfoldable pub next_line : List ℕ → Option (Line × List ℕ)
+next_line bytes = option_and_then (λ at. option_map (λ line. (line, drop 1 (drop at bytes))) (line_of (take at bytes))) (position is_newline bytes)
 
 abbrev pub has_path : List ℕ → Line → Bool
 has_path path line = bytes_eq line.path path
@@ -50,7 +46,7 @@ unless_bad found line = if is_packed line then Err (PackedHeader (length found +
 -- the first line of the bytes, behind those found before, and what follows its newline
 unfoldable pub line_at : List Line → List ℕ → Result (Line × List ℕ) ManifestFault
 line_at found bytes =
-    ok_or (first_line bytes) (BadLine (length found + 1)) >>= λ first.
+    ok_or (next_line bytes) (BadLine (length found + 1)) >>= λ first.
     unless_bad found first.0 >>= λ good.
     Ok (good, first.1)
 
@@ -69,6 +65,5 @@ unfoldable pub manifest_of : List ℕ → Result (List Line) ManifestFault
 manifest_of bytes = lines_after most_lines [] bytes
 
 -- the answer is this one, or that memory was refused
-abbrev pub Gives : {A : Type 0} → Result A ManifestFault → Result A ManifestFault → Type 0
-Gives (Ok x) meant = meant ≡ Ok x
-Gives (Err e) meant = (e ≡ NoMemory) ⊎ (meant ≡ Err e)
+abbrev pub Answers : {A : Type 0} → Result A ManifestFault → Result A ManifestFault → Type 0
+Answers answer meant = Gives NoMemory (λ x. x) answer meant

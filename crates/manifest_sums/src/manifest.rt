@@ -4,7 +4,7 @@ ghost use Rattle.std.specs.Prelude.{◌≡◌, ◌≢◌, ◌↔◌, ◌⊎◌, 
 ghost use Rattle.std.specs.List.{All, HoldsAt, list_any, starts_with};
 ghost use Rattle.manifest_sums.specs.Spelling.{IsManifest, IsFirstFault};
 ghost use Rattle.std.specs.Str.{bytes_eq};
-ghost use Rattle.manifest_sums.specs.Manifest.{is_newline, line_of, first_line, line_at, has_path, unless_bad, lines_after, most_lines, manifest_of, Gives};
+ghost use Rattle.manifest_sums.specs.Manifest.{is_newline, line_of, next_line, line_at, has_path, unless_bad, lines_after, most_lines, manifest_of, Answers};
 
 use crate::sum::Sum;
 use std::alloc::Global;
@@ -135,9 +135,9 @@ fn line_of(text: &[u8]) -> Option<Line>
 }
 
 /// The line up to the first newline, and what follows the newline.
-#[tactic(auto, unfolding(crate::specs::Manifest::first_line))]
-fn first_line(bytes: &[u8]) -> Option<(Line, &[u8])>
-    ensures { MatchOption result (first_line bytes.now ≡ None) (λ r. first_line bytes.now ≡ Some (r.0, r.1.now)) }
+#[tactic(auto, unfolding(crate::specs::Manifest::next_line))]
+fn next_line(bytes: &[u8]) -> Option<(Line, &[u8])>
+    ensures { MatchOption result (next_line bytes.now ≡ None) (λ r. next_line bytes.now ≡ Some (r.0, r.1.now)) }
 {
     let at = newline(bytes)?;
     let (text, rest) = bytes.split_at(at);
@@ -174,7 +174,7 @@ fn line_at<'a>(found: &[Line], bytes: &'a [u8]) -> Result<(Line, &'a [u8]), Mani
     requires { length found.now < 2 ^ 16 }
     ensures { MatchResult result (λ r. line_at found.now bytes.now ≡ Ok (r.0, r.1.now)) (λ e. line_at found.now bytes.now ≡ Err e) }
 {
-    let Some((line, rest)) = first_line(bytes) else {
+    let Some((line, rest)) = next_line(bytes) else {
         return Err(ManifestFault::BadLine(found.len() as u32 + 1));
     };
     let line = unless_bad(found, line)?;
@@ -187,7 +187,7 @@ fn line_at<'a>(found: &[Line], bytes: &'a [u8]) -> Result<(Line, &'a [u8]), Mani
 /// refused.
 #[tactic(auto, using(crate::proofs::SpellingLemmas::answers))]
 pub fn read_manifest(alloc: Global, bytes: &[u8]) -> Result<Manifest, ManifestFault>
-    ensures exact { Gives result (manifest_of bytes.now) }
+    ensures exact { Answers result (manifest_of bytes.now) }
     ensures found { IfOk result (λ lines. IsManifest bytes.now lines) }
     ensures refused { IfErr result (λ e. (e ≡ ManifestFault.NoMemory) ⊎ IsFirstFault bytes.now e) }
     ensures only { (lines : List Line) → IsManifest bytes.now lines → (result ≡ Ok lines) ⊎ (result ≡ Err ManifestFault.NoMemory) }
@@ -198,7 +198,7 @@ pub fn read_manifest(alloc: Global, bytes: &[u8]) -> Result<Manifest, ManifestFa
 /// The lines one after another, or the first fault.
 #[tactic(auto, unfolding(crate::specs::Manifest::manifest_of))]
 fn read_lines(alloc: Global, bytes: &[u8]) -> Result<Manifest, ManifestFault>
-    ensures { Gives result (manifest_of bytes.now) }
+    ensures { Answers result (manifest_of bytes.now) }
 {
     let mut lines = ListOf::new(alloc);
     let mut rest = bytes;

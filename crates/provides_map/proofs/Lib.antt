@@ -5,3 +5,5 @@ pub mod Pieces
 pub mod Lookups
 pub mod Effects
 pub mod Wanted
+pub mod MergeLemmas
+pub mod LengthLemmas

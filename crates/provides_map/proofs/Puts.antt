@@ -67,7 +67,7 @@ pub all_put : (P : List ℕ → Type 0) (ps : Pairs) (key value : List ℕ) → 
 all_put P [] key value k h = (k, tt)
 all_put P (p ∷ ps) key value k h = all_put_at P (byte_cmp key p.0) p ps (put ps key value) key value k h.0 h.1 (all_put P ps key value k h.1)
 
-all_below : (a b : List ℕ) (ps : Pairs) → byte_cmp a b ≡ Less → AllByRecursion (λ y. byte_cmp b y ≡ Less) (keys_of ps) → AllByRecursion (λ y. byte_cmp a y ≡ Less) (keys_of ps)
+pub all_below : (a b : List ℕ) (ps : Pairs) → byte_cmp a b ≡ Less → AllByRecursion (λ y. byte_cmp b y ≡ Less) (keys_of ps) → AllByRecursion (λ y. byte_cmp a y ≡ Less) (keys_of ps)
 all_below a b [] lt h = tt
 all_below a b (p ∷ ps) lt h = (nat_list_cmp_total.trans a b p.0 lt h.0, all_below a b ps lt h.1)
 
@@ -161,7 +161,7 @@ pairs_filter test (p ∷ ps) a = elim (test p) as (λ b. AllByRecursion IsPair (
 pub map_filter : (test : Pair → Bool) (ps : Pairs) → IsMap ps → IsMap (filter test ps)
 map_filter test ps m = record { sorted = sorted_filter test ps m.sorted; pairs = pairs_filter test ps m.pairs; few = omega (arith, m.few, length-filter-le test ps) }
 
-got : (ps : Pairs) (i : ℕ) (p : Pair) → slice_get ps i ≡ Some p → get_or ps i p ≡ p
+pub got : (ps : Pairs) (i : ℕ) (p : Pair) → slice_get ps i ≡ Some p → get_or ps i p ≡ p
 got [] i p is = absurd cc
 got (q ∷ ps) zero p is = cc
 got (q ∷ ps) (suc i) p is = got ps i p is

@@ -5,3 +5,4 @@ pub mod Row
 pub mod Place
 pub mod After
 pub mod ByKey
+pub mod Merge

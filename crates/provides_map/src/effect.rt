@@ -1,11 +1,11 @@
 ghost use Rattle.std.specs.Prelude.{◌≡◌, ◌≤◌, codes, IfOk};
 ghost use Rattle.std.specs.List.{list_any};
 ghost use Rattle.std.specs.Str.{bytes_eq};
-ghost use Rattle.provides_map.specs.Pairs.{put_all, put};
 ghost use Rattle.provides_map.specs.Match.{is_match};
 ghost use Rattle.provides_map.specs.After.{after, broken, HasName, stays, allows, value_of, first_unmet, artifact_name, artifact_group, is_cleared, put_some};
 
 use crate::change::{Change, Clears, PatternList, ValueList, Want, WantList};
+use crate::merge::merged;
 use crate::provides::Provides;
 use std::alloc::Global;
 use upd_text::{Name, NoMemory, Value};
@@ -32,16 +32,6 @@ pub(crate) fn stays(clears: &Clears, key: &Name, value: &Value) -> bool
     !(key.bytes() == b"artifact_name".as_slice()) && !is_cleared(clears, key)
 }
 
-fn put_all(held: &mut Provides, provides: &Provides) -> Result<(), NoMemory>
-    ensures { IfOk result (λ _. held.new ≡ put_all held.old provides.now) }
-{
-    for i in 0..provides.len() {
-        let (key, value) = provides.pair(i);
-        held.insert(key.twin(), value.twin())?;
-    }
-    Ok(())
-}
-
 fn put_some(held: &mut Provides, key: Name, value: &Option<Name>) -> Result<(), NoMemory>
     ensures { IfOk result (λ _. held.new ≡ put_some held.old key value.now) }
 {
@@ -59,22 +49,23 @@ fn put_some(held: &mut Provides, key: Name, value: &Option<Name>) -> Result<(), 
 pub fn after(alloc: Global, current: &Provides, change: &Change) -> Result<Provides, NoMemory>
     ensures { IfOk result (λ p. p ≡ after current.now change.now) }
 {
-    let mut new = current.kept(alloc, &change.clears)?;
-    put_all(&mut new, &change.provides)?;
+    let mut new = merged(alloc, &change.clears, current, &change.provides)?;
     put_some(&mut new, group_key(), &change.group)?;
     new.insert(name_key(), Value::of_name(&change.name))?;
     Ok(new)
 }
 
+/// The key of the artifact's name.
 #[tactic(auto, unfolding(upd_text::specs::Text::name_of))]
-pub(crate) fn name_key() -> Name
+pub fn name_key() -> Name
     ensures { result ≡ artifact_name }
 {
     Name::read(b"artifact_name").ok().unwrap()
 }
 
+/// The key of the artifact's group.
 #[tactic(auto, unfolding(upd_text::specs::Text::name_of))]
-fn group_key() -> Name
+pub fn group_key() -> Name
     ensures { result ≡ artifact_group }
 {
     Name::read(b"artifact_group").ok().unwrap()

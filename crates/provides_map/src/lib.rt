@@ -5,15 +5,18 @@
 mod change;
 mod effect;
 mod laws;
+mod length;
+mod merge;
 mod pattern;
 mod provides;
 
 pub use change::{Change, Clears, PatternList, ValueList, Want, WantList};
-pub use effect::{after, broken, first_unmet};
+pub use effect::{after, broken, first_unmet, group_key, name_key};
 pub use laws::{
     after_by_key, broken_by_key, patterns_are_decided, provides_are_a_map, same_look_ups_same_map,
     wants_are_told,
 };
+pub use length::{MapLength, after_length};
 pub use pattern::Pattern;
 pub use provides::Provides;
 

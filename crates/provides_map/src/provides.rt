@@ -1,11 +1,9 @@
-ghost use Rattle.std.specs.Prelude.{◌≡◌, ◌<◌, ◌^◌, [], length, slice_get, Some, OnOk, OnErr, option_copied, IfOk, IfErr, filter};
+ghost use Rattle.std.specs.Prelude.{◌≡◌, ◌<◌, ◌^◌, [], length, slice_get, Some, OnOk, OnErr, option_copied, IfOk, IfErr};
 ghost use Rattle.provides_map.specs.Place.{IsAt, IsGap};
 ghost use Rattle.provides_map.specs.Pairs.{get, put, IsMap};
 
 mod appending;
 
-use crate::change::Clears;
-use crate::effect::stays;
 use std::alloc::Global;
 use std::cmp::Ordering;
 use std::marker::Model;
@@ -112,25 +110,6 @@ impl Provides {
             }
         }
         Err(low)
-    }
-}
-
-impl Provides {
-    ghost use Rattle.provides_map.specs.After.{stays};
-
-    // The pairs that stay.
-    pub(crate) fn kept(&self, alloc: Global, clears: &Clears) -> Result<Provides, NoMemory>
-        ensures { IfOk result (λ p. p ≡ filter (stays clears.now) self.now) }
-    {
-        let mut pairs = Vec::new(alloc);
-        let held = self.pairs.as_slice();
-        for (key, value) in held {
-            if stays(clears, key, value) {
-                let pair = (key.twin(), value.twin());
-                pairs.push(pair)?;
-            }
-        }
-        Ok(Provides { pairs })
     }
 }
 

@@ -1,7 +1,7 @@
 use crate::effect::name_key;
 use crate::{
-    Change, Clears, Pattern, PatternList, Provides, ValueList, Want, WantList, after, broken,
-    first_unmet,
+    Change, Clears, MapLength, Pattern, PatternList, Provides, ValueList, Want, WantList, after,
+    after_length, broken, first_unmet,
 };
 use std::alloc::Global;
 use std::test::Fail;
@@ -137,6 +137,8 @@ struct Row {
     provides: Pairs,
     clears: Option<Texts>,
     wanted: Pairs,
+    // of each pair 4, the key and the value
+    bytes: u64,
 }
 
 const HELD: Pairs = &[
@@ -147,7 +149,7 @@ const HELD: Pairs = &[
 ];
 
 // The name becomes r1 in each.
-const ROWS: [Row; 5] = [
+const ROWS: [Row; 8] = [
     Row {
         held: HELD,
         group: None,
@@ -158,6 +160,7 @@ const ROWS: [Row; 5] = [
             ("data.version", "4"),
             ("rootfs-imagex", "x"),
         ],
+        bytes: 54,
     },
     Row {
         held: HELD,
@@ -165,6 +168,7 @@ const ROWS: [Row; 5] = [
         provides: &[],
         clears: None,
         wanted: &[("artifact_name", "r1")],
+        bytes: 19,
     },
     Row {
         held: &[("artifact_group", "g0"), ("k", "0"), ("z", "9")],
@@ -178,6 +182,7 @@ const ROWS: [Row; 5] = [
             ("k", "1"),
             ("z", "9"),
         ],
+        bytes: 57,
     },
     Row {
         held: &[("artifact_group", "g0"), ("k", "0"), ("z", "9")],
@@ -191,6 +196,7 @@ const ROWS: [Row; 5] = [
             ("k", "1"),
             ("z", "9"),
         ],
+        bytes: 57,
     },
     Row {
         held: &[("artifact_group", "g0"), ("artifact_name", "")],
@@ -198,26 +204,67 @@ const ROWS: [Row; 5] = [
         provides: &[],
         clears: Some(&["artifact_group"]),
         wanted: &[("artifact_name", "r1")],
+        bytes: 19,
+    },
+    Row {
+        held: &[("b", "0"), ("c", "0"), ("e", "0"), ("f", "0")],
+        group: Some("g1"),
+        provides: &[("artifact_group", "x"), ("b", "1"), ("d", "2"), ("f", "3")],
+        clears: Some(&[]),
+        wanted: &[
+            ("artifact_group", "g1"),
+            ("artifact_name", "r1"),
+            ("b", "1"),
+            ("c", "0"),
+            ("d", "2"),
+            ("e", "0"),
+            ("f", "3"),
+        ],
+        bytes: 69,
+    },
+    Row {
+        held: &[],
+        group: None,
+        provides: &[("artifact_group", "gx"), ("z", "1")],
+        clears: None,
+        wanted: &[
+            ("artifact_group", "gx"),
+            ("artifact_name", "r1"),
+            ("z", "1"),
+        ],
+        bytes: 45,
+    },
+    Row {
+        held: &[("a", "0"), ("b", "0")],
+        group: None,
+        provides: &[("x", "1"), ("y", "1")],
+        clears: Some(&["b"]),
+        wanted: &[("a", "0"), ("artifact_name", "r1"), ("x", "1"), ("y", "1")],
+        bytes: 37,
     },
 ];
 
-fn changed(alloc: Global, row: Row) -> Result<Provides, Fail> {
-    let held = provides(alloc, row.held)?;
-    let change = Change {
+fn change(alloc: Global, row: Row) -> Result<Change, Fail> {
+    Ok(Change {
         name: name("r1")?,
         group: group(row.group)?,
         provides: provides(alloc, row.provides)?,
         clears: clears(alloc, row.clears)?,
-    };
-    let new = after(alloc, &held, &change)?;
-    Ok(new)
+    })
 }
 
 #[test]
 fn a_change_leaves_what_it_says(rt: HostRuntime) -> Result<(), Fail> {
     for (i, row) in ROWS.iter().enumerate() {
-        let new = changed(rt.alloc(), *row)?;
+        let held = provides(rt.alloc(), row.held)?;
+        let change = change(rt.alloc(), *row)?;
+        let new = after(rt.alloc(), &held, &change)?;
         assert!(rt; are(&new, row.wanted), "at {i}");
+        let length = MapLength {
+            pairs: row.wanted.len() as u64,
+            bytes: row.bytes,
+        };
+        assert_eq!(rt; after_length(&held, &change), length, "at {i}");
     }
     Ok(())
 }

@@ -1,5 +1,5 @@
 -- What is spelled so is read, whatever follows.
-use Rattle.std.proofs.Common.{◌≡◌, ℕ, ◌+◌, ◌-◌, ◌%◌, ◌^◌, ◌<◌, ◌≤◌, Bool, true, false, ltb, leb, ◌&&◌, List, [], ◌∷◌, ◌++◌, length, take, drop, Some, Result, Ok, refl, sym, ap, subst, ◌∙◌, append_assoc, append-nil, length-append, IsTrue, arith, eq-eqb}
+use Rattle.std.proofs.Common.{◌≡◌, ℕ, ◌+◌, ◌-◌, ◌%◌, ◌^◌, ◌<◌, ◌≤◌, Bool, true, false, ltb, leb, ◌&&◌, List, [], ◌∷◌, ◌++◌, length, get_or, take, drop, Some, Result, Ok, refl, sym, ap, subst, ◌∙◌, append_assoc, append-nil, length-append, IsTrue, arith, eq-eqb}
 use Rattle.std.specs.Prelude.{slice_get, codes, nat_eq}
 use Rattle.std.specs.Int.{Width, w8, w16, w32, byte_len, from_be_bytes, to_be_bytes}
 use Rattle.std.specs.List.{flat_map, starts_with, AllByRecursion}
@@ -27,12 +27,15 @@ use Rattle.flow_table.specs.declared.position.Outcome.{Outcome}
 use Rattle.flow_table.specs.declared.position.Outcome.TheVariants.{Undecided, Kept, Committed, RolledBack, Inconsistent}
 use Rattle.flow_table.specs.declared.position.Reboot.{Reboot}
 use Rattle.flow_table.specs.declared.position.Reboot.TheVariants.{No, Yes, Automatic}
-use Rattle.record_codec.specs.Reading.{Rest, any, bytes_at, number_at, choice_at, literal_at, text_at, position_at, pair_at, items_at, map_at, named_map_at, script_at, scripts_at, body_at, head_at, entry_at, database, limit, within, is_length}
+use Rattle.record_codec.specs.Reading.{Rest, any, bytes_at, number_at, choice_at, literal_at, text_at, position_at, pair_at, items_at, map_at, named_map_at, kinds_at, script_at, scripts_at, version_at, marks_at, is_kind_count, body_at, head_at, entry_at, database, limit, within, is_length}
 use Rattle.record_codec.specs.declared.entry.Entry.{Entry}
 use Rattle.record_codec.specs.declared.entry.Db.{Db}
 use Rattle.record_codec.specs.declared.entry.Db.TheVariants.{Full}
 use Rattle.record_codec.proofs.Record.{head_len}
-use Rattle.record_codec.specs.Spelling.{IsRight, body, head, record_of, record_length}
+use Rattle.record_codec.specs.declared.entry.Version.{Version}
+use Rattle.record_codec.specs.declared.entry.Version.TheVariants.{First, Second}
+use Rattle.record_codec.specs.Spelling.{HasVersion, magic, marks, kinds, IsRight, body, head, record_of, record_length}
+use Rattle.record_codec.specs.declared.reader.whole.Head.{Head}
 
 -- the text stands at r, and behind it s
 pub record Spells (text : List ℕ) (r s : Rest) : Type 0 where
@@ -251,22 +254,39 @@ literal_again text r s computes h =
 -- ---- the record
 pub kind_small : (k : List ℕ) → is_kind k ≡ true → length k < 2 ^ 8
 unfolding is_kind
-kind_small k h = name_small k ((and_parts _ _ ((and_parts _ _ ((and_parts _ _ h).0)).0)).0)
+kind_small k h = name_small k (and_parts _ _ h).0
 
-pub record_len : (e : Entry) → length (record_of e) ≡ record_length e
+pub record_len : (v : Version) (e : Entry) → length (record_of v e) ≡ record_length e
 unfolding record_of
-record_len e = omega (arith, length-append (head e) (body e), head_len e)
+record_len v e = omega (arith, length-append (head v e) (body e), head_len v e)
 
-pub no_zeros : (e : Entry) (rest : List ℕ) → starts_with nat_eq (record_of e ++ rest) (0 ∷ 0 ∷ 0 ∷ 0 ∷ []) ≡ false
+pub no_zeros : (v : Version) (e : Entry) (rest : List ℕ) → starts_with nat_eq (record_of v e ++ rest) (0 ∷ 0 ∷ 0 ∷ 0 ∷ []) ≡ false
 unfolding record_of head
-no_zeros e rest = refl
+no_zeros First e rest = refl
+no_zeros Second e rest = refl
 
-pub body_again : (e : Entry) (r s : Rest) → IsRight e → Spells (body e) r s → body_at e.position r ≡ Ok (e, s)
-unfolding body_at body
+kinds_again : (names : List (List ℕ)) (r s : Rest) → AllByRecursion (λ kind. IsTrue (is_kind kind)) names → Spells (flat_map short_text names) r s → kinds_at (length names) r ≡ Ok (names, s)
+unfolding kinds_at
+kinds_again [] r s all h =
+    let at : s.at ≡ r.at = omega (arith, h.place) in
+    rw (at, sym h.parts) refl
+kinds_again (name ∷ names) r s all h =
+    let t = short_text name in
+    let u = flat_map short_text names in
+    let g : Spells (t ++ u) r s = subst (λ (x : List ℕ). Spells x r s) (flat_map-cons short_text name names) h in
+    let m = mid t u r s in
+    rw (short_again is_kind name r m (kind_small name all.0) all.0 (first t u r s g), kinds_again names m s all.1 (second t u r s g)) refl
+
+-- the head that an entry's record has
+abbrev pub head_of : Entry → Head
+head_of e = record { position = e.position; count = length e.kinds; id = e.id; end = record_length e }
+
+pub body_again : (e : Entry) (r s : Rest) → IsRight e → Spells (body e) r s → body_at (head_of e) r ≡ Ok (e, s)
+unfolding body_at body kinds
 body_again e r s ok h =
     let a = pairs e.before in
     let b = pairs e.new in
-    let c = short_text e.kind in
+    let c = flat_map short_text e.kinds in
     let d = scripts e.scripts in
     let g : Spells (a ++ (b ++ (c ++ d))) r s = record { parts = h.parts ∙ ap (λ (t : List ℕ). t ++ s.bytes) (append_assoc (a ++ b) c d ∙ append_assoc a b (c ++ d)); place = h.place ∙ ap (λ (t : List ℕ). r.at + length t) (append_assoc (a ++ b) c d ∙ append_assoc a b (c ++ d)) } in
     let m0 = mid a (b ++ (c ++ d)) r s in
@@ -277,16 +297,41 @@ body_again e r s ok h =
     rw (
       map_again e.before r m0 ok.before ok.before_fits (first a (b ++ (c ++ d)) r s g),
       named_map_again e.new m0 m1 ok.new ok.new_fits ok.named (first b (c ++ d) m0 s g0),
-      short_again is_kind e.kind m1 m2 (kind_small e.kind ok.kind) ok.kind (first c d m1 s g1),
+      kinds_again e.kinds m1 m2 ok.kinds (first c d m1 s g1),
       scripts_again e.scripts m2 s ok.scripts ok.brought (second c d m1 s g1),
     ) refl
 
-pub head_again : (e : Entry) (r s : Rest) → IsRight e → record_length e ≤ 131072 → Spells (head e) r s → head_at r ≡ Ok ((e.position, record_length e), s)
+version_again : (v : Version) (r s : Rest) → Spells (magic v) r s → version_at r ≡ Ok (v, s)
+unfolding version_at
+version_again First r s h =
+    let t : starts_with nat_eq r.bytes (codes "MUP1") ≡ true = rw h.parts refl in
+    let d : drop 4 r.bytes ≡ s.bytes = ap (drop 4) h.parts ∙ drop_at (codes "MUP1") s.bytes 4 refl in
+    rw t (ap (λ (x : Rest). Ok (First, x)) (rest_is (r.at + 4) (drop 4 r.bytes) s h.place (sym d)))
+version_again Second r s h =
+    let t : starts_with nat_eq r.bytes (codes "MUP1") ≡ false = rw h.parts refl in
+    rw (t, literal_again (codes "MUP2") r s (λ rest. refl) h) refl
+
+marks_again : (v : Version) (e : Entry) (r s : Rest) → IsRight e → HasVersion v e → Spells (marks v e) r s → marks_at v r ≡ Ok ((length e.kinds, e.id), s)
+unfolding marks_at
+marks_again First e r s ok has h = rw (literal_again (0 ∷ 0 ∷ 0 ∷ []) r s (λ rest. refl) h, has.0, has.1) refl
+marks_again Second e r s ok has h =
+    let n = length e.kinds in
+    let t : List ℕ = n ∷ [] in
+    let u = to_be_bytes w16 e.id in
+    let m = mid t u r s in
+    let right : is_kind_count n ≡ true = and_from _ _ (le-leb 1 n ok.some) (le-leb n 8 ok.few) in
+    let one : to_be_bytes w8 n ≡ n ∷ [] = ap (λ (k : ℕ). k ∷ []) (omega (arith, ok.few)) in
+    rw (
+      number_again w8 (2 ^ 8) wide8 is_kind_count n r m (omega (arith, ok.few)) right (subst (λ (x : List ℕ). Spells x r m) (sym one) (first t u r s h)),
+      number_again w16 (2 ^ 16) wide16 any e.id m s ok.small refl (second t u r s h),
+    ) refl
+
+pub head_again : (v : Version) (e : Entry) (r s : Rest) → IsRight e → HasVersion v e → record_length e ≤ 131072 → Spells (head v e) r s → head_at r ≡ Ok (head_of e, s)
 unfolding head_at head
-head_again e r s ok small h =
-    let a = codes "MUP1" in
+head_again v e r s ok has small h =
+    let a = magic v in
     let b = position_bytes e.position in
-    let c : List ℕ = 0 ∷ 0 ∷ 0 ∷ [] in
+    let c = marks v e in
     let d = to_be_bytes w32 (record_length e) in
     let g : Spells (a ++ (b ++ (c ++ d))) r s = record { parts = h.parts ∙ ap (λ (t : List ℕ). t ++ s.bytes) (append_assoc (a ++ b) c d ∙ append_assoc a b (c ++ d)); place = h.place ∙ ap (λ (t : List ℕ). r.at + length t) (append_assoc (a ++ b) c d ∙ append_assoc a b (c ++ d)) } in
     let m0 = mid a (b ++ (c ++ d)) r s in
@@ -296,23 +341,23 @@ head_again e r s ok small h =
     let m2 = mid c d m1 s in
     let long : is_length (record_length e) ≡ true = and_from _ _ (le-leb 16 (record_length e) (omega arith)) (le-leb (record_length e) 131072 small) in
     rw (
-      literal_again a r m0 (λ rest. refl) (first a (b ++ (c ++ d)) r s g),
+      version_again v r m0 (first a (b ++ (c ++ d)) r s g),
       position_again e.position m0 m1 ok.position (first b (c ++ d) m0 s g0),
-      literal_again c m1 m2 (λ rest. refl) (first c d m1 s g1),
+      marks_again v e m1 m2 ok has (first c d m1 s g1),
       number_again w32 (2 ^ 32) wide32 is_length (record_length e) m2 s (omega (arith, small)) long (second c d m1 s g1),
     ) refl
 
-pub entry_again : (e : Entry) (r s : Rest) → IsRight e → record_length e ≤ 131072 → r.at ≡ 0 → Spells (record_of e) r s → entry_at r ≡ Ok e
+pub entry_again : (v : Version) (e : Entry) (r s : Rest) → IsRight e → HasVersion v e → record_length e ≤ 131072 → r.at ≡ 0 → Spells (record_of v e) r s → entry_at r ≡ Ok e
 unfolding entry_at record_of
-entry_again e r s ok small zero_at h =
-    let m = mid (head e) (body e) r s in
+entry_again v e r s ok has small zero_at h =
+    let m = mid (head v e) (body e) r s in
     let inside = within (record_length e) m in
     let end : Rest = record { at = record_length e; bytes = [] } in
-    let at16 : r.at + length (head e) ≡ 16 = omega (arith, zero_at, head_len e) in
-    let left : record_length e - (r.at + length (head e)) ≡ length (body e) = omega (arith, at16) in
-    let cut : take (record_length e - (r.at + length (head e))) (body e ++ s.bytes) ≡ body e ++ [] = take_at (body e) s.bytes (record_length e - (r.at + length (head e))) (sym left) ∙ sym (append-nil (body e)) in
+    let at16 : r.at + length (head v e) ≡ 16 = omega (arith, zero_at, head_len v e) in
+    let left : record_length e - (r.at + length (head v e)) ≡ length (body e) = omega (arith, at16) in
+    let cut : take (record_length e - (r.at + length (head v e))) (body e ++ s.bytes) ≡ body e ++ [] = take_at (body e) s.bytes (record_length e - (r.at + length (head v e))) (sym left) ∙ sym (append-nil (body e)) in
     let g : Spells (body e) inside end = record { parts = cut; place = omega (arith, at16) } in
-    rw (head_again e r m ok small (first (head e) (body e) r s h), body_again e inside end ok g, eq-eqb (record_length e) (record_length e) refl) refl
+    rw (head_again v e r m ok has small (first (head v e) (body e) r s h), body_again e inside end ok g, eq-eqb (record_length e) (record_length e) refl) refl
 
 pub limit_is : limit ≡ 131072
 unfolding limit
@@ -323,18 +368,25 @@ front_again text rest n le =
     let k : n ≡ length text + (n - length text) = omega arith in
     ap (λ (i : ℕ). take i (text ++ rest)) k ∙ take-append-add text rest (n - length text)
 
-pub all_again : (e : Entry) (rest : List ℕ) → IsRight e → record_length e ≤ 131072 → database (record_of e ++ rest) ≡ Ok (Full e)
+pub all_again : (v : Version) (e : Entry) (rest : List ℕ) → IsRight e → HasVersion v e → record_length e ≤ 131072 → database (record_of v e ++ rest) ≡ Ok (Full e)
 unfolding database
-all_again e rest ok small =
-    let fits : length (record_of e) ≤ limit = omega (arith, record_len e, limit_is) in
-    let r : Rest = record { at = 0; bytes = take limit (record_of e ++ rest) } in
-    let s : Rest = record { at = length (record_of e); bytes = take (limit - length (record_of e)) rest } in
-    let g : Spells (record_of e) r s = record { parts = front_again (record_of e) rest limit fits; place = omega arith } in
-    rw (no_zeros e rest, entry_again e r s ok small refl g) refl
+all_again v e rest ok has small =
+    let fits : length (record_of v e) ≤ limit = omega (arith, record_len v e, limit_is) in
+    let r : Rest = record { at = 0; bytes = take limit (record_of v e ++ rest) } in
+    let s : Rest = record { at = length (record_of v e); bytes = take (limit - length (record_of v e)) rest } in
+    let g : Spells (record_of v e) r s = record { parts = front_again (record_of v e) rest limit fits; place = omega arith } in
+    rw (no_zeros v e rest, entry_again v e r s ok has small refl g) refl
 
--- no entry has two records, and no record begins another
-pub one_record : (e f : Entry) (x y : List ℕ) → IsRight e → IsRight f → record_length e ≤ 131072 → record_length f ≤ 131072 → record_of e ++ x ≡ record_of f ++ y → e ≡ f
-one_record e f x y oke okf se sf is =
+-- no entry has two records of one version, and no record begins another
+same_version : (v w : Version) (e f : Entry) (x y : List ℕ) → record_of v e ++ x ≡ record_of w f ++ y → v ≡ w
+unfolding record_of head
+same_version First First e f x y is = refl
+same_version Second Second e f x y is = refl
+same_version First Second e f x y is = absurd (omega (arith, ap (λ (l : List ℕ). get_or l 3 0) is))
+same_version Second First e f x y is = absurd (omega (arith, ap (λ (l : List ℕ). get_or l 3 0) is))
+
+pub one_record : (v w : Version) (e f : Entry) (x y : List ℕ) → IsRight e → IsRight f → HasVersion v e → HasVersion w f → record_length e ≤ 131072 → record_length f ≤ 131072 → record_of v e ++ x ≡ record_of w f ++ y → (v ≡ w) × (e ≡ f)
+one_record v w e f x y oke okf hase hasf se sf is =
     let full : Entry → Result Db ℕ = λ z. Ok (Full z) in
-    let both : full e ≡ full f = sym (all_again e x oke se) ∙ ap database is ∙ all_again f y okf sf in
-    cc
+    let both : full e ≡ full f = sym (all_again v e x oke hase se) ∙ ap database is ∙ all_again w f y okf hasf sf in
+    (same_version v w e f x y is, cc)

@@ -8,10 +8,12 @@ use Rattle.std.proofs.lemmas.List.Concat.{flat_map-cons}
 use Rattle.std.proofs.lemmas.Nat.{be_bytes_2, be_bytes_4}
 use Rattle.upd_text.specs.Order.{is_below}
 use Rattle.record_codec.specs.Keys.{is_name, is_value, is_pair, ascend}
+use Rattle.record_codec.specs.declared.entry.Version.TheVariants.{First, Second}
 use Rattle.record_codec.specs.Spelling.{short_text, long_text, pair}
-use Rattle.record_codec.specs.Reading.{Rest, ◌>>=◌, field, any, chosen, bytes_at, number_at, choice_at, literal_at, text_at, pair_at, items_at}
+use Rattle.upd_text.specs.Results.{◌>>=◌}
+use Rattle.record_codec.specs.Reading.{Rest, field, any, chosen, bytes_at, number_at, choice_at, literal_at, text_at, pair_at, items_at, version_at}
 use Rattle.std.specs.Prelude.{slice_get}
-use Rattle.std.specs.Prelude.{nat_eq}
+use Rattle.std.specs.Prelude.{nat_eq, codes}
 use Rattle.std.specs.List.{starts_with}
 use Rattle.std.specs.Cmp.Lexicographic.{bytes_decides}
 use Rattle.record_codec.proofs.Again.{Spells}
@@ -199,3 +201,26 @@ literal_found text r s fits e =
     let front : text ≡ take (length text) r.bytes = (bytes_decides text (take (length text) r.bytes)).0 t.0 in
     let parts : r.bytes ≡ text ++ drop (length text) r.bytes = sym (take-append-drop (length text) r.bytes) ∙ ap (λ (x : List ℕ). x ++ drop (length text) r.bytes) (sym front) in
     subst (λ (y : Rest). Found text r y) t.1 (record { spells = record { parts = parts; place = refl }; left = IsBytes-drop (length text) r.bytes fits })
+
+-- ---- the version, by the first four bytes
+test_err : {A : Type 0} (b : Bool) (d offset : ℕ) (x : A) → cond b (Ok x) (Err d) ≡ Err offset → b ≡ false
+test_err true d offset x e = absurd cc
+test_err false d offset x e = refl
+
+pub version_first : (r s : Rest) → literal_at (codes "MUP1") r ≡ Ok s → version_at r ≡ Ok (First, s)
+unfolding version_at literal_at
+version_first r s h =
+    let t = test_ok (starts_with nat_eq r.bytes (codes "MUP1")) r.at (record { at = r.at + 4; bytes = drop 4 r.bytes }) s h in
+    rw t.0 (ap (λ (x : Rest). Ok (First, x)) t.1)
+
+not_first : (r : Rest) (offset : ℕ) → literal_at (codes "MUP1") r ≡ Err offset → starts_with nat_eq r.bytes (codes "MUP1") ≡ false
+unfolding literal_at
+not_first r offset h = test_err (starts_with nat_eq r.bytes (codes "MUP1")) r.at offset (record { at = r.at + 4; bytes = drop 4 r.bytes }) h
+
+pub version_second : (r s : Rest) (offset : ℕ) → literal_at (codes "MUP1") r ≡ Err offset → literal_at (codes "MUP2") r ≡ Ok s → version_at r ≡ Ok (Second, s)
+unfolding version_at
+version_second r s offset none h = rw (not_first r offset none, h) refl
+
+pub version_none : (r : Rest) (offset wrong : ℕ) → literal_at (codes "MUP1") r ≡ Err offset → literal_at (codes "MUP2") r ≡ Err wrong → version_at r ≡ Err wrong
+unfolding version_at
+version_none r offset wrong none h = rw (not_first r offset none, h) refl

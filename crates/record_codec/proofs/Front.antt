@@ -1,5 +1,5 @@
 -- Where reading fails: never before the place where it began.
-use Rattle.std.proofs.Common.{◌≡◌, ℕ, zero, suc, ◌+◌, ◌≤◌, Bool, true, false, cond, ltb, ◌&&◌, List, [], ◌∷◌, length, take, drop, Option, Some, None, Result, Ok, Err, refl, ap, ◌∙◌, arith}
+use Rattle.std.proofs.Common.{◌≡◌, ℕ, zero, suc, ◌+◌, ◌≤◌, Bool, true, false, cond, ltb, ◌&&◌, ◌||◌, List, [], ◌∷◌, length, take, drop, Option, Some, None, Result, Ok, Err, refl, ap, ◌∙◌, arith}
 use Rattle.std.specs.Prelude.{slice_get, codes, nat_eq, IsFalse, ◌↔◌, ◌==◌, nat_le}
 use Rattle.std.specs.Int.{Width, w8, w16, w32, byte_len, from_be_bytes}
 use Rattle.std.specs.List.{starts_with}
@@ -7,15 +7,18 @@ use Rattle.std.proofs.lemmas.List.{take-take}
 use lib.Pointwise.{pointwise}
 use Rattle.upd_text.specs.Order.{is_below, itself}
 use Rattle.provides_map.specs.Last.{key_of}
-use Rattle.flow_table.specs.declared.position.Position.{Position}
 use Rattle.flow_table.specs.Valid.{is_outcome, is_undoable, is_reboot, is_count}
 use Rattle.record_codec.specs.declared.entry.Entry.{Entry}
 use Rattle.record_codec.specs.declared.entry.Db.{Db}
 use Rattle.record_codec.specs.declared.entry.Db.TheVariants.{Empty, Full}
 use Rattle.record_codec.specs.Keys.{is_name, is_value}
+use Rattle.record_codec.specs.declared.entry.Version.{Version}
+use Rattle.record_codec.specs.declared.entry.Version.TheVariants.{First, Second}
 use Rattle.record_codec.specs.Spelling.{is_kind, is_script, is_named}
+use Rattle.record_codec.specs.declared.reader.whole.Head.{Head}
 use Rattle.record_codec.specs.Bytes.{states, outcomes, answers, reboots}
-use Rattle.record_codec.specs.Reading.{Rest, ◌>>=◌, field, any, chosen, bytes_at, number_at, choice_at, literal_at, text_at, position_at, pair_at, items_at, map_at, named_map_at, script_at, scripts_at, body_at, head_at, entry_at, database, limit, within, is_length}
+use Rattle.upd_text.specs.Results.{◌>>=◌}
+use Rattle.record_codec.specs.Reading.{Rest, field, any, chosen, bytes_at, number_at, choice_at, literal_at, text_at, position_at, pair_at, items_at, map_at, named_map_at, kinds_at, script_at, scripts_at, version_at, marks_at, is_kind_count, body_at, head_at, entry_at, database, limit, within, is_length}
 use Rattle.record_codec.proofs.Again.{limit_is}
 
 -- what was read ends at or behind the start, and what is wrong stands there
@@ -115,42 +118,84 @@ scripts_move : (r : Rest) → Moves r.at end_of (scripts_at r)
 unfolding scripts_at
 scripts_move r = step r.at r end_of (number_at w8 (λ n. nat_le n 64) r) _ (omega arith) (number_moves w8 (λ n. nat_le n 64) r) (λ count le. further r.at (end_of count) end_of _ le (items_move itself script_at script_moves count.0 [] count.1))
 
-body_moves : (position : Position) (r : Rest) → Moves r.at end_of (body_at position r)
+kinds_move : (n : ℕ) (r : Rest) → Moves r.at end_of (kinds_at n r)
+unfolding kinds_at
+kinds_move zero r = omega arith
+kinds_move (suc n) r =
+    step r.at r end_of (text_at w8 is_kind r) _ (omega arith) (text_moves w8 is_kind r) (λ first le1.
+    step r.at first.1 end_of (kinds_at n first.1) _ le1 (kinds_move n first.1) (λ others le2. le2))
+
+body_moves : (h : Head) (r : Rest) → Moves r.at end_of (body_at h r)
 unfolding body_at
-body_moves position r =
+body_moves h r =
     step r.at r end_of (map_at r) _ (omega arith) (map_moves r) (λ before le1.
     step r.at before.1 end_of (named_map_at before.1) _ le1 (named_map_moves before.1) (λ new le2.
-    step r.at new.1 end_of (text_at w8 is_kind new.1) _ le2 (text_moves w8 is_kind new.1) (λ kind le3.
-    step r.at kind.1 end_of (scripts_at kind.1) _ le3 (scripts_move kind.1) (λ scripts le4. le4))))
+    step r.at new.1 end_of (kinds_at h.count new.1) _ le2 (kinds_move h.count new.1) (λ kinds le3.
+    step r.at kinds.1 end_of (scripts_at kinds.1) _ le3 (scripts_move kinds.1) (λ scripts le4. le4))))
 
 abbrev place : Rest → ℕ
 place s = s.at
 
-magic_read : (r : Rest) → starts_with nat_eq r.bytes (codes "MUP1") ≡ true → literal_at (codes "MUP1") r ≡ Ok (record { at = r.at + 4; bytes = drop 4 r.bytes })
-unfolding literal_at
-magic_read r is = rw is refl
+-- the bytes begin as a record of this version does
+abbrev begins_as : List ℕ → Bool
+begins_as bytes = starts_with nat_eq bytes (codes "MUP1") || starts_with nat_eq bytes (codes "MUP2")
 
--- behind MUP1 nothing fails before offset 4
-head_moves : (r : Rest) → starts_with nat_eq r.bytes (codes "MUP1") ≡ true → Moves (r.at + 4) end_of (head_at r)
+-- what is read behind the first four bytes
+record VersionRead (r : Rest) : Type 0 where
+  version : Version
+  rest : Rest
+  read : version_at r ≡ Ok (version, rest)
+  at : rest.at ≡ r.at + 4
+
+version_read : (r : Rest) → begins_as r.bytes ≡ true → VersionRead r
+unfolding version_at literal_at
+version_read r is = by_both (starts_with nat_eq r.bytes (codes "MUP1")) (starts_with nat_eq r.bytes (codes "MUP2")) refl refl is
+  where
+    behind : Rest
+    behind = record { at = r.at + 4; bytes = drop 4 r.bytes }
+
+    by_both : (b c : Bool) → starts_with nat_eq r.bytes (codes "MUP1") ≡ b → starts_with nat_eq r.bytes (codes "MUP2") ≡ c → (b || c) ≡ true → VersionRead r
+    by_both true c one two either = record { version = First; rest = behind; read = rw one refl; at = refl }
+    by_both false true one two either = record { version = Second; rest = behind; read = rw (one, two) refl; at = refl }
+    by_both false false one two either = absurd cc
+
+version_stops : (r : Rest) → begins_as r.bytes ≡ false → version_at r ≡ Err r.at
+unfolding version_at literal_at
+version_stops r is = by_both (starts_with nat_eq r.bytes (codes "MUP1")) (starts_with nat_eq r.bytes (codes "MUP2")) refl refl is
+  where
+    by_both : (b c : Bool) → starts_with nat_eq r.bytes (codes "MUP1") ≡ b → starts_with nat_eq r.bytes (codes "MUP2") ≡ c → (b || c) ≡ false → version_at r ≡ Err r.at
+    by_both true c one two neither = absurd cc
+    by_both false true one two neither = absurd cc
+    by_both false false one two neither = rw (one, two) refl
+
+marks_move : (v : Version) (r : Rest) → Moves r.at end_of (marks_at v r)
+unfolding marks_at
+marks_move First r = next r.at place end_of (literal_at (0 ∷ 0 ∷ 0 ∷ []) r) _ (literal_moves (0 ∷ 0 ∷ 0 ∷ []) r) (λ rest le. le)
+marks_move Second r =
+    step r.at r end_of (number_at w8 is_kind_count r) _ (omega arith) (number_moves w8 is_kind_count r) (λ count le1.
+    step r.at count.1 end_of (number_at w16 any count.1) _ le1 (number_moves w16 any count.1) (λ id le2. le2))
+
+-- behind the first four bytes nothing fails before offset 4
+head_moves : (r : Rest) → begins_as r.bytes ≡ true → Moves (r.at + 4) end_of (head_at r)
 unfolding head_at
 head_moves r is =
-    let magic : Rest = record { at = r.at + 4; bytes = drop 4 r.bytes } in
-    let read : literal_at (codes "MUP1") r ≡ Ok magic = magic_read r is in
-    rw read (step (r.at + 4) magic end_of (position_at magic) _ (omega arith) (position_moves magic) (λ position le1.
-    next (r.at + 4) place end_of (literal_at (0 ∷ 0 ∷ 0 ∷ []) position.1) _ (further (r.at + 4) (end_of position) place _ le1 (literal_moves (0 ∷ 0 ∷ 0 ∷ []) position.1)) (λ zeros le2.
-    step (r.at + 4) zeros end_of (number_at w32 is_length zeros) _ le2 (number_moves w32 is_length zeros) (λ end le3. le3))))
+    let v = version_read r is in
+    let m : Rest = v.rest in
+    rw v.read (step (r.at + 4) m end_of (position_at m) _ (omega (arith, v.at)) (position_moves m) (λ position le1.
+    step (r.at + 4) position.1 end_of (marks_at v.version position.1) _ le1 (marks_move v.version position.1) (λ marks le2.
+    step (r.at + 4) marks.1 end_of (number_at w32 is_length marks.1) _ le2 (number_moves w32 is_length marks.1) (λ end le3. le3))))
 
 entry_moves : (start : ℕ) (r : Rest) → Moves start end_of (head_at r) → Moves start (λ (e : Entry). start) (entry_at r)
 unfolding entry_at
 entry_moves start r h =
     next start end_of (λ (e : Entry). start) (head_at r) _ h (λ head le1.
-    step start (within head.0.1 head.1) (λ (e : Entry). start) (body_at head.0.0 (within head.0.1 head.1)) _ le1 (body_moves head.0.0 (within head.0.1 head.1)) (λ entry le2.
-    either start (λ (e : Entry). start) (entry.1.at == head.0.1) entry.0 entry.1.at (omega arith) le2))
+    step start (within head.0.end head.1) (λ (e : Entry). start) (body_at head.0 (within head.0.end head.1)) _ le1 (body_moves head.0 (within head.0.end head.1)) (λ entry le2.
+    either start (λ (e : Entry). start) (entry.1.at == head.0.end) entry.0 entry.1.at (omega arith) le2))
 
--- without MUP1 the fault stands at the start
-entry_stops : (r : Rest) → starts_with nat_eq r.bytes (codes "MUP1") ≡ false → entry_at r ≡ Err r.at
-unfolding entry_at head_at literal_at
-entry_stops r is = rw is refl
+-- without them the fault stands at the start
+entry_stops : (r : Rest) → begins_as r.bytes ≡ false → entry_at r ≡ Err r.at
+unfolding entry_at head_at
+entry_stops r is = rw (version_stops r is) refl
 
 unwrapped : (zeros : Bool) (read : Result Entry ℕ) (offset : ℕ) (all : Result Db ℕ) → all ≡ Err offset → all ≡ cond zeros (Ok Empty) (read >>= λ e. Ok (Full e)) → read ≡ Err offset
 unwrapped true read offset all is same = absurd cc
@@ -165,22 +210,22 @@ entry_fails : (bytes : List ℕ) (offset : ℕ) → database bytes ≡ Err offse
 unfolding database
 entry_fails bytes offset is = unwrapped (starts_with nat_eq bytes (0 ∷ 0 ∷ 0 ∷ 0 ∷ [])) (entry_at (whole bytes)) offset (database bytes) is refl
 
-begins : (bytes : List ℕ) → starts_with nat_eq (take limit bytes) (codes "MUP1") ≡ starts_with nat_eq bytes (codes "MUP1")
-begins bytes = let few : 4 ≤ limit = omega (arith, limit_is) in let e : take 4 (take limit bytes) ≡ take 4 bytes = take-take 4 limit bytes few in ap (λ (t : List ℕ). pointwise nat_eq (codes "MUP1") t) e
+begins : (bytes : List ℕ) → begins_as (take limit bytes) ≡ begins_as bytes
+begins bytes = let few : 4 ≤ limit = omega (arith, limit_is) in let e : take 4 (take limit bytes) ≡ take 4 bytes = take-take 4 limit bytes few in ap (λ (t : List ℕ). pointwise nat_eq (codes "MUP1") t || pointwise nat_eq (codes "MUP2") t) e
 
 not_before : (start offset : ℕ) (read : Result Entry ℕ) → read ≡ Err offset → Moves start (λ (e : Entry). start) read → start ≤ offset
 not_before start offset (Ok e) is h = absurd cc
 not_before start offset (Err x) is h = let e : x ≡ offset = cc in omega arith
 
-pub later : (bytes : List ℕ) (offset : ℕ) → database bytes ≡ Err offset → starts_with nat_eq bytes (codes "MUP1") ≡ true → 4 ≤ offset
+pub later : (bytes : List ℕ) (offset : ℕ) → database bytes ≡ Err offset → begins_as bytes ≡ true → 4 ≤ offset
 later bytes offset is front = not_before 4 offset (entry_at (whole bytes)) (entry_fails bytes offset is) (entry_moves 4 (whole bytes) (head_moves (whole bytes) (begins bytes ∙ front)))
 
-at_start : (bytes : List ℕ) (offset : ℕ) → database bytes ≡ Err offset → starts_with nat_eq bytes (codes "MUP1") ≡ false → offset ≡ 0
+at_start : (bytes : List ℕ) (offset : ℕ) → database bytes ≡ Err offset → begins_as bytes ≡ false → offset ≡ 0
 at_start bytes offset is front = let e = entry_fails bytes offset is in let f = entry_stops (whole bytes) (begins bytes ∙ front) in cc
 
 not_true : (b : Bool) → (b ≡ true → ⊥) → b ≡ false
 not_true true h = absurd (h refl)
 not_true false h = refl
 
-pub zero_at_front : (bytes : List ℕ) (offset : ℕ) → database bytes ≡ Err offset → (offset ≡ 0) ↔ IsFalse (starts_with nat_eq bytes (codes "MUP1"))
-zero_at_front bytes offset is = (λ none. not_true (starts_with nat_eq bytes (codes "MUP1")) (λ front. absurd (let k = later bytes offset is front in omega arith)), at_start bytes offset is)
+pub zero_at_front : (bytes : List ℕ) (offset : ℕ) → database bytes ≡ Err offset → (offset ≡ 0) ↔ IsFalse (begins_as bytes)
+zero_at_front bytes offset is = (λ none. not_true (begins_as bytes) (λ front. absurd (let k = later bytes offset is front in omega arith)), at_start bytes offset is)

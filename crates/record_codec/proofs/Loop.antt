@@ -2,7 +2,10 @@
 use Rattle.std.proofs.Common.{◌≡◌, ℕ, suc, ◌-◌, ◌+◌, ◌≤◌, ◌<◌, List, [], ◌∷◌, ◌++◌, Result, Ok, Err, refl, sym, ap, ◌∙◌, append_assoc, arith}
 use Rattle.std.proofs.lemmas.List.{append-nil}
 use Rattle.upd_text.specs.Order.{last_from}
-use Rattle.record_codec.specs.Reading.{Rest, ◌>>=◌, items_at}
+use Rattle.std.specs.Int.{w8}
+use Rattle.record_codec.specs.Spelling.{is_kind}
+use Rattle.upd_text.specs.Results.{◌>>=◌}
+use Rattle.record_codec.specs.Reading.{Rest, items_at, text_at, kinds_at}
 use Rattle.upd_text.proofs.OrderLemmas.{last_from-push}
 
 -- what was read before, and what is still read
@@ -48,3 +51,27 @@ module _ {A : Type 0} (key : A → List ℕ) (item : List ℕ → Rest → Resul
   pub starts : (count : ℕ) (r : Rest) → rest_of count 0 [] r ≡ items_at key item count [] r
   unfolding items_at
   starts count r = let e : count - 0 ≡ count = omega arith in rw e (same (items_at key item count [] r))
+
+-- ---- payload types, one after the other
+pub kinds_go_on : (front : List (List ℕ)) (count i : ℕ) (r : Rest) (x : List ℕ) (after : Rest) (total : Result (List (List ℕ) × Rest) ℕ) → i < count → text_at w8 is_kind r ≡ Ok (x, after)
+    → with_front front (kinds_at (count - i) r) ≡ total → with_front (front ++ x ∷ []) (kinds_at (count - (i + 1)) after) ≡ total
+unfolding kinds_at
+kinds_go_on front count i r x after total lt h so_far =
+    let k : count - i ≡ suc (count - (i + 1)) = omega arith in
+    let one : with_front front (kinds_at (count - i) r) ≡ with_front (front ++ x ∷ []) (kinds_at (count - (i + 1)) after) = rw (k, h) (regroup front x (kinds_at (count - (i + 1)) after)) in
+    sym one ∙ so_far
+
+pub kinds_end : (offset : ℕ) (front : List (List ℕ)) (count i : ℕ) (r : Rest) (total : Result (List (List ℕ) × Rest) ℕ) → i < count → text_at w8 is_kind r ≡ Err offset
+    → with_front front (kinds_at (count - i) r) ≡ total → total ≡ Err offset
+unfolding kinds_at
+kinds_end offset front count i r total lt h so_far =
+    let k : count - i ≡ suc (count - (i + 1)) = omega arith in
+    let one : with_front front (kinds_at (count - i) r) ≡ Err offset = rw (k, h) refl in
+    sym so_far ∙ one
+
+pub kinds_done : (front : List (List ℕ)) (count i : ℕ) (r : Rest) (total : Result (List (List ℕ) × Rest) ℕ) → count ≤ i → with_front front (kinds_at (count - i) r) ≡ total → total ≡ Ok (front, r)
+unfolding kinds_at
+kinds_done front count i r total le so_far =
+    let k : count - i ≡ 0 = omega arith in
+    let one : with_front front (kinds_at (count - i) r) ≡ Ok (front, r) = rw k (ap (λ (xs : List (List ℕ)). Ok (xs, r)) (append-nil front)) in
+    sym so_far ∙ one

@@ -1,7 +1,9 @@
 -- The sizes of pairs and short texts, one by one.
-use Rattle.std.proofs.Common.{◌≡◌, ℕ, ◌+◌, ◌<◌, List, length, get_or, take, ap, ◌∙◌, length-append, arith}
-use Rattle.std.specs.List.{flat_map}
+use Rattle.std.proofs.Common.{◌≡◌, ℕ, ◌+◌, ◌<◌, List, [], ◌∷◌, refl, length, get_or, take, ap, ◌∙◌, length-append, arith}
+use Rattle.std.specs.List.{flat_map, sum_by}
+use Rattle.std.proofs.lemmas.List.Sums.{sum_by-cons}
 use Rattle.provides_map.specs.Pairs.{Pairs}
+use Rattle.provides_map.specs.Merge.{pair_length}
 use Rattle.record_codec.specs.Spelling.{short_text, long_text, pair, pairs, scripts}
 use Rattle.record_codec.proofs.Puts.{flat_map_more}
 
@@ -26,3 +28,11 @@ pairs_size ps = omega arith
 pub scripts_size : (names : List (List ℕ)) → length (scripts names) ≡ 1 + length (flat_map short_text names)
 unfolding scripts
 scripts_size names = omega arith
+
+sum_is_length : (ps : Pairs) → length (flat_map pair ps) ≡ sum_by pair_length ps
+sum_is_length [] = refl
+sum_is_length (p ∷ ps) = omega (arith, length-append (pair p) (flat_map pair ps), pair_size p, sum_by-cons pair_length p ps, sum_is_length ps)
+
+-- a map's bytes are the number of its pairs and those of each pair
+pub pairs_length : (ps : Pairs) → length (pairs ps) ≡ 2 + sum_by pair_length ps
+pairs_length ps = omega (arith, pairs_size ps, sum_is_length ps)

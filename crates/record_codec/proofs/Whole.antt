@@ -1,10 +1,11 @@
 -- A whole record that was read is the record of its entry, and the entry is right.
-use Rattle.std.proofs.Common.{◌≡◌, ℕ, ◌+◌, ◌-◌, ◌<◌, ◌≤◌, ◌^◌, Bool, true, false, cond, eqb, List, [], ◌∷◌, ◌++◌, length, take, drop, Result, Ok, Err, refl, sym, ap, subst, ◌∙◌, append_assoc, append-nil, length-append, IsTrue, arith}
+use Rattle.std.proofs.Common.{◌≡◌, ℕ, zero, suc, ◌+◌, ◌-◌, ◌<◌, ◌≤◌, ◌^◌, Bool, true, false, cond, eqb, List, [], ◌∷◌, ◌++◌, length, take, drop, Result, Ok, Err, refl, sym, ap, subst, ◌∙◌, append_assoc, append-nil, length-append, IsTrue, arith}
 use Rattle.std.specs.Prelude.{codes, nat_eq, nat_le, IfOk}
 use Rattle.std.specs.Int.{w8, w16, w32, to_be_bytes}
-use Rattle.std.specs.List.{flat_map, starts_with}
+use Rattle.std.specs.List.{flat_map, starts_with, AllByRecursion}
 use Rattle.std.proofs.lemmas.Bool.{eqb-true, leb-true, and_parts, and_from}
 use Rattle.std.proofs.lemmas.List.{take-append-drop, length-take, drop_at, nil_from_length}
+use Rattle.std.proofs.lemmas.List.Concat.{flat_map-cons}
 use Rattle.upd_text.specs.Order.{is_below, itself}
 use Rattle.provides_map.specs.Pairs.{Pairs, IsMap}
 use Rattle.provides_map.specs.Last.{key_of}
@@ -15,8 +16,12 @@ use Rattle.record_codec.specs.declared.entry.Db.{Db}
 use Rattle.record_codec.specs.declared.entry.Db.TheVariants.{Empty, Full}
 use Rattle.record_codec.specs.Keys.{is_pair}
 use Rattle.record_codec.specs.Bytes.{states, outcomes, answers, reboots, state_byte, outcome_byte, answer_byte, reboot_byte}
-use Rattle.record_codec.specs.Spelling.{short_text, pair, pairs, scripts, position_bytes, is_kind, is_script, is_named, body, head, record_of, record_length, IsRight, IsFound, IfFull}
-use Rattle.record_codec.specs.Reading.{Rest, ◌>>=◌, any, choice_at, number_at, literal_at, text_at, position_at, pair_at, items_at, map_at, named_map_at, script_at, scripts_at, body_at, head_at, entry_at, database, limit, within, is_length, Gives}
+use Rattle.record_codec.specs.declared.entry.Version.{Version}
+use Rattle.record_codec.specs.declared.entry.Version.TheVariants.{First, Second}
+use Rattle.record_codec.specs.Spelling.{HasVersion, magic, kinds, short_text, pair, pairs, scripts, position_bytes, is_kind, is_script, is_named, body, head, record_of, record_length, IsRight, IsFound, IfFull}
+use Rattle.upd_text.specs.Results.{◌>>=◌}
+use Rattle.record_codec.specs.Reading.{Rest, any, choice_at, number_at, literal_at, text_at, position_at, pair_at, items_at, map_at, named_map_at, kinds_at, script_at, scripts_at, version_at, marks_at, is_kind_count, body_at, head_at, entry_at, database, limit, within, is_length, Gives}
+use Rattle.record_codec.specs.declared.reader.whole.Head.{Head}
 use Rattle.record_codec.specs.declared.fault.DecodeFault.{DecodeFault}
 use Rattle.record_codec.proofs.Again.{record_len}
 use Rattle.record_codec.proofs.Texts.{HasName-from, IsMap-from, Listed, Listed-from}
@@ -100,24 +105,140 @@ scripts_found r x fits e =
     let few : length x.0 ≤ 64 = omega (arith, h.1, leb-true a.0.0 64 f.2) in
     (then (length x.0 ∷ []) (flat_map short_text x.0) r a.0.1 x.1 count h.0, Listed-from x.0 few h.2)
 
-body_found : (position : Position) → IsTrue (is_valid position) → (r : Rest) (x : Entry × Rest) → IsBytes r.bytes → body_at position r ≡ Ok x → Found (body x.0) r x.1 × IsRight x.0 × (x.0.position ≡ position)
-unfolding body_at body
-body_found position valid r x fits e =
+kinds_found : (n : ℕ) (r : Rest) (x : List (List ℕ) × Rest) → IsBytes r.bytes → kinds_at n r ≡ Ok x → Found (flat_map short_text x.0) r x.1 × (length x.0 ≡ n) × AllByRecursion (λ kind. IsTrue (is_kind kind)) x.0
+unfolding kinds_at
+kinds_found zero r x fits e =
+    let made : List (List ℕ) × Rest = ([], r) in
+    let same : made ≡ x = cc in
+    subst (λ (y : List (List ℕ) × Rest). Found (flat_map short_text y.0) r y.1 × (length y.0 ≡ 0) × AllByRecursion (λ kind. IsTrue (is_kind kind)) y.0) same
+    (record { spells = record { parts = refl; place = omega arith }; left = fits }, refl, tt)
+kinds_found (suc n) r x fits e =
+    let a = bind_ok (text_at w8 is_kind r) (λ first. kinds_at n first.1 >>= λ others. Ok (first.0 ∷ others.0, others.1)) x e in
+    let b = bind_ok (kinds_at n a.0.1) (λ others. Ok (a.0.0 ∷ others.0, others.1)) x a.2 in
+    let f = short_found is_kind r a.0 fits a.1 in
+    let h = kinds_found n a.0.1 b.0 f.0.left b.1 in
+    let made : List (List ℕ) × Rest = (a.0.0 ∷ b.0.0, b.0.1) in
+    let same : made ≡ x = cc in
+    let all : Found (short_text a.0.0 ++ flat_map short_text b.0.0) r b.0.1 = then (short_text a.0.0) (flat_map short_text b.0.0) r a.0.1 b.0.1 f.0 h.0 in
+    subst (λ (y : List (List ℕ) × Rest). Found (flat_map short_text y.0) r y.1 × (length y.0 ≡ suc n) × AllByRecursion (λ kind. IsTrue (is_kind kind)) y.0) same
+    (subst (λ (t : List ℕ). Found t r b.0.1) (sym (flat_map-cons short_text a.0.0 b.0.0)) all, ap suc h.1, (f.1, h.2))
+
+version_found : (r : Rest) (x : Version × Rest) → IsBytes r.bytes → version_at r ≡ Ok x → Found (magic x.0) r x.1
+unfolding version_at literal_at
+version_found r x fits e = by_front (starts_with nat_eq r.bytes (codes "MUP1")) refl e
+  where
+    made : Rest
+    made = record { at = r.at + 4; bytes = drop 4 r.bytes }
+
+    by_front : (b : Bool) → starts_with nat_eq r.bytes (codes "MUP1") ≡ b → cond b (Ok (First, made)) (literal_at (codes "MUP2") r >>= λ rest. Ok (Second, rest)) ≡ Ok x → Found (magic x.0) r x.1
+    by_front true is e =
+        let first : Version × Rest = (First, made) in
+        let same : first ≡ x = cc in
+        let read : literal_at (codes "MUP1") r ≡ Ok made = rw is refl in
+        subst (λ (y : Version × Rest). Found (magic y.0) r y.1) same (literal_found (codes "MUP1") r made fits read)
+    by_front false is e =
+        let a = bind_ok (literal_at (codes "MUP2") r) (λ rest. Ok (Second, rest)) x e in
+        let second : Version × Rest = (Second, a.0) in
+        let same : second ≡ x = cc in
+        subst (λ (y : Version × Rest). Found (magic y.0) r y.1) same (literal_found (codes "MUP2") r a.0 fits a.1)
+
+-- the marks of so many payload types and this number
+abbrev spelled : Version → ℕ × ℕ → List ℕ
+spelled First m = 0 ∷ 0 ∷ 0 ∷ []
+spelled Second m = m.0 ∷ to_be_bytes w16 m.1
+
+abbrev HasMarks : Version → ℕ × ℕ → Type 0
+HasMarks First m = (m.0 ≡ 1) × (m.1 ≡ 0)
+HasMarks Second m = Unit {0}
+
+record AreMarks (v : Version) (m : ℕ × ℕ) : Type 0 where
+  has : HasMarks v m
+  some : 1 ≤ m.0
+  few : m.0 ≤ 8
+  small : m.1 < 2 ^ 16
+
+marks_found : (v : Version) (r : Rest) (x : (ℕ × ℕ) × Rest) → IsBytes r.bytes → marks_at v r ≡ Ok x → Found (spelled v x.0) r x.1 × AreMarks v x.0
+unfolding marks_at
+marks_found First r x fits e =
+    let a = bind_ok (literal_at (0 ∷ 0 ∷ 0 ∷ []) r) (λ rest. Ok ((1, 0), rest)) x e in
+    let f = literal_found (0 ∷ 0 ∷ 0 ∷ []) r a.0 fits a.1 in
+    let made : (ℕ × ℕ) × Rest = ((1, 0), a.0) in
+    let same : made ≡ x = cc in
+    subst (λ (y : (ℕ × ℕ) × Rest). Found (spelled First y.0) r y.1 × AreMarks First y.0) same
+    (f, record { has = (refl, refl); some = omega arith; few = omega arith; small = omega arith })
+marks_found Second r x fits e =
+    let a = bind_ok (number_at w8 is_kind_count r) (λ count. number_at w16 any count.1 >>= λ id. Ok ((count.0, id.0), id.1)) x e in
+    let b = bind_ok (number_at w16 any a.0.1) (λ id. Ok ((a.0.0, id.0), id.1)) x a.2 in
+    let f = byte_found is_kind_count r a.0 fits a.1 in
+    let h = number_found w16 (2 ^ 16) exact16 any a.0.1 b.0 f.0.left b.1 in
+    let counts = and_parts (nat_le 1 a.0.0) (nat_le a.0.0 8) f.2 in
+    let made : (ℕ × ℕ) × Rest = ((a.0.0, b.0.0), b.0.1) in
+    let same : made ≡ x = cc in
+    subst (λ (y : (ℕ × ℕ) × Rest). Found (spelled Second y.0) r y.1 × AreMarks Second y.0) same (
+      then (a.0.0 ∷ []) (to_be_bytes w16 b.0.0) r a.0.1 b.0.1 f.0 h.0,
+      record { has = tt; some = leb-true 1 a.0.0 counts.0; few = leb-true a.0.0 8 counts.1; small = h.1 },
+    )
+
+-- the head of a record with these fields
+abbrev front : Version → Head → List ℕ
+front v h = magic v ++ position_bytes h.position ++ spelled v (h.count, h.id) ++ to_be_bytes w32 h.end
+
+record HeadFound (r : Rest) (x : Head × Rest) : Type 0 where
+  version : Version
+  found : Found (front version x.0) r x.1
+  valid : IsTrue (is_valid x.0.position)
+  marked : AreMarks version (x.0.count, x.0.id)
+  small : x.0.end ≤ 131072
+
+head_found : (r : Rest) (x : Head × Rest) → IsBytes r.bytes → head_at r ≡ Ok x → HeadFound r x
+unfolding head_at
+head_found r x fits e =
+    let a = bind_ok (version_at r) _ x e in
+    let fa = version_found r a.0 fits a.1 in
+    let b = bind_ok (position_at a.0.1) _ x a.2 in
+    let fb = position_found a.0.1 b.0 fa.left b.1 in
+    let c = bind_ok (marks_at a.0.0 b.0.1) _ x b.2 in
+    let fc = marks_found a.0.0 b.0.1 c.0 fb.0.left c.1 in
+    let d = bind_ok (number_at w32 is_length c.0.1) _ x c.2 in
+    let fd = number_found w32 (2 ^ 32) exact32 is_length c.0.1 d.0 fc.0.left d.1 in
+    let v : Version = a.0.0 in
+    let made : Head × Rest = (record { position = b.0.0; count = c.0.0.0; id = c.0.0.1; end = d.0.0 }, d.0.1) in
+    let same : made ≡ x = same_value made x (Ok made) refl d.2 in
+    let small = and_parts (nat_le 16 d.0.0) (nat_le d.0.0 131072) fd.2 in
+    let t1 = magic v in
+    let t2 = position_bytes b.0.0 in
+    let t3 = spelled v c.0.0 in
+    let t4 = to_be_bytes w32 d.0.0 in
+    let all : Found (t1 ++ t2 ++ t3 ++ t4) r d.0.1 = then (t1 ++ t2 ++ t3) t4 r c.0.1 d.0.1 (then (t1 ++ t2) t3 r b.0.1 c.0.1 (then t1 t2 r a.0.1 b.0.1 fa fb.0) fc.0) fd.0 in
+    subst (λ (y : Head × Rest). HeadFound r y) same
+    (record { version = v; found = all; valid = fb.1; marked = fc.1; small = leb-true d.0.0 131072 small.1 })
+
+-- an entry that was read with a head
+record BodyFound (h : Head) (r : Rest) (x : Entry × Rest) : Type 0 where
+  found : Found (body x.0) r x.1
+  right : IsRight x.0
+  position : x.0.position ≡ h.position
+  id : x.0.id ≡ h.id
+  count : length x.0.kinds ≡ h.count
+
+body_found : (v : Version) (h : Head) → IsTrue (is_valid h.position) → AreMarks v (h.count, h.id) → (r : Rest) (x : Entry × Rest) → IsBytes r.bytes → body_at h r ≡ Ok x → BodyFound h r x
+unfolding body_at body kinds
+body_found v h valid marked r x fits e =
     let a = bind_ok (map_at r) _ x e in
     let fa = map_found r a.0 fits a.1 in
     let b = bind_ok (named_map_at a.0.1) _ x a.2 in
     let nb = named_map_found a.0.1 b.0 b.1 in
     let fb = map_found a.0.1 b.0 fa.0.left nb.0 in
-    let c = bind_ok (text_at w8 is_kind b.0.1) _ x b.2 in
-    let fc = short_found is_kind b.0.1 c.0 fb.0.left c.1 in
+    let c = bind_ok (kinds_at h.count b.0.1) _ x b.2 in
+    let fc = kinds_found h.count b.0.1 c.0 fb.0.left c.1 in
     let d = bind_ok (scripts_at c.0.1) _ x c.2 in
     let fd = scripts_found c.0.1 d.0 fc.0.left d.1 in
-    let entry : Entry = record { position = position; before = a.0.0; new = b.0.0; kind = c.0.0; scripts = d.0.0 } in
+    let entry : Entry = record { position = h.position; id = h.id; before = a.0.0; new = b.0.0; kinds = c.0.0; scripts = d.0.0 } in
     let made : Entry × Rest = (entry, d.0.1) in
     let same : made ≡ x = same_value made x (Ok made) refl d.2 in
     let t1 = pairs a.0.0 in
     let t2 = pairs b.0.0 in
-    let t3 = short_text c.0.0 in
+    let t3 = flat_map short_text c.0.0 in
     let t4 = scripts d.0.0 in
     let all : Found (t1 ++ t2 ++ t3 ++ t4) r d.0.1 =
     then (t1 ++ t2 ++ t3) t4 r c.0.1 d.0.1 (then (t1 ++ t2) t3 r b.0.1 c.0.1 (then t1 t2 r a.0.1 b.0.1 fa.0 fb.0) fc.0) fd.0 in
@@ -128,42 +249,28 @@ body_found position valid r x fits e =
       new = fb.2;
       new_fits = fb.1;
       named = HasName-from b.0.0 nb.1;
-      kind = fc.1;
+      kinds = fc.2;
+      some = omega (arith, fc.1, marked.some);
+      few = omega (arith, fc.1, marked.few);
+      small = marked.small;
       scripts = fd.1.scripts;
       brought = fd.1.brought;
     } in
-    subst (λ (y : Entry × Rest). Found (body y.0) r y.1 × IsRight y.0 × (y.0.position ≡ position)) same (all, right, refl)
+    subst (λ (y : Entry × Rest). BodyFound h r y) same (record { found = all; right = right; position = refl; id = refl; count = fc.1 })
 
--- the head of a record at this position and of this length
-abbrev front : Position → ℕ → List ℕ
-front position end = codes "MUP1" ++ position_bytes position ++ (0 ∷ 0 ∷ 0 ∷ []) ++ to_be_bytes w32 end
-
-head_found : (r : Rest) (x : (Position × ℕ) × Rest) → IsBytes r.bytes → head_at r ≡ Ok x → Found (front x.0.0 x.0.1) r x.1 × IsTrue (is_valid x.0.0) × (x.0.1 ≤ 131072)
-unfolding head_at
-head_found r x fits e =
-    let zeros : List ℕ = 0 ∷ 0 ∷ 0 ∷ [] in
-    let a = bind_ok (literal_at (codes "MUP1") r) _ x e in
-    let fa = literal_found (codes "MUP1") r a.0 fits a.1 in
-    let b = bind_ok (position_at a.0) _ x a.2 in
-    let fb = position_found a.0 b.0 fa.left b.1 in
-    let c = bind_ok (literal_at zeros b.0.1) _ x b.2 in
-    let fc = literal_found zeros b.0.1 c.0 fb.0.left c.1 in
-    let d = bind_ok (number_at w32 is_length c.0) _ x c.2 in
-    let fd = number_found w32 (2 ^ 32) exact32 is_length c.0 d.0 fc.left d.1 in
-    let made : (Position × ℕ) × Rest = ((b.0.0, d.0.0), d.0.1) in
-    let same : made ≡ x = same_value made x (Ok made) refl d.2 in
-    let small = and_parts (nat_le 16 d.0.0) (nat_le d.0.0 131072) fd.2 in
-    let all : Found (front b.0.0 d.0.0) r d.0.1 =
-    then (codes "MUP1" ++ position_bytes b.0.0 ++ zeros) (to_be_bytes w32 d.0.0) r c.0 d.0.1 (then (codes "MUP1" ++ position_bytes b.0.0) zeros r b.0.1 c.0 (then (codes "MUP1") (position_bytes b.0.0) r a.0 b.0.1 fa fb.0) fc) fd.0 in
-    subst (λ (y : (Position × ℕ) × Rest). Found (front y.0.0 y.0.1) r y.1 × IsTrue (is_valid y.0.0) × (y.0.1 ≤ 131072)) same (all, fb.1, leb-true d.0.0 131072 small.1)
-
-front_len : (position : Position) (end : ℕ) → length (front position end) ≡ 16
+front_len : (v : Version) (h : Head) → length (front v h) ≡ 16
 unfolding position_bytes
-front_len position end = refl
+front_len First h = refl
+front_len Second h = refl
 
-front_is : (e : Entry) (position : Position) (end : ℕ) → e.position ≡ position → end ≡ record_length e → front position end ≡ head e
+front_is : (v : Version) (e : Entry) (h : Head) → e.position ≡ h.position → e.id ≡ h.id → length e.kinds ≡ h.count → h.end ≡ record_length e → front v h ≡ head v e
 unfolding head
-front_is e position end p n = rw (← p, n) refl
+front_is First e h p i k n = rw (← p, n) refl
+front_is Second e h p i k n = rw (← p, ← i, ← k, n) refl
+
+of-version : (v : Version) (e : Entry) (h : Head) → e.id ≡ h.id → length e.kinds ≡ h.count → HasMarks v (h.count, h.id) → HasVersion v e
+of-version First e h i k has = (k ∙ has.0, i ∙ has.1)
+of-version Second e h i k has = tt
 
 -- what stands before the record's end, and what behind it
 cut : (all text left : List ℕ) (n : ℕ) → take n all ≡ text ++ left → n ≡ length text → all ≡ text ++ drop n all
@@ -174,35 +281,36 @@ cut all text left n is same =
 
 -- a record at the front, and something behind it
 record Begins (bytes : List ℕ) (e : Entry) : Type 0 where
+  version : Version
+  of_version : HasVersion version e
   right : IsRight e
   small : record_length e ≤ 131072
   rest : List ℕ
-  parts : bytes ≡ record_of e ++ rest
+  parts : bytes ≡ record_of version e ++ rest
 
 entry_found : (r : Rest) (e : Entry) → r.at ≡ 0 → IsBytes r.bytes → entry_at r ≡ Ok e → Begins r.bytes e
 unfolding entry_at record_of
 entry_found r e zero_at fits is =
     let a = bind_ok (head_at r) _ e is in
     let fa = head_found r a.0 fits a.1 in
-    let position : Position = a.0.0.0 in
-    let end : ℕ = a.0.0.1 in
+    let v : Version = fa.version in
+    let h : Head = a.0.0 in
     let m : Rest = a.0.1 in
-    let inside : Rest = within end m in
-    let b = bind_ok (body_at position inside) _ e a.2 in
+    let inside : Rest = within h.end m in
+    let b = bind_ok (body_at h inside) _ e a.2 in
     let left : Rest = b.0.1 in
-    let fb = body_found position fa.1 inside b.0 (IsBytes-take (end - m.at) m.bytes fa.0.left) b.1 in
-    let t = test_ok (eqb left.at end) left.at b.0.0 e b.2 in
+    let fb = body_found v h fa.valid fa.marked inside b.0 (IsBytes-take (h.end - m.at) m.bytes fa.found.left) b.1 in
+    let t = test_ok (eqb left.at h.end) left.at b.0.0 e b.2 in
     let entry : Entry = b.0.0 in
-    let ends : left.at ≡ end = eqb-true left.at end t.0 in
-    let right : IsRight entry = fb.1 in
-    let placed : left.at ≡ m.at + length (body entry) = fb.0.spells.place in
-    let begun : m.at ≡ 16 = omega (arith, fa.0.spells.place, front_len position end, zero_at) in
-    let same : end ≡ record_length entry = omega arith in
-    let size : end - m.at ≡ length (body entry) = omega arith in
-    let behind : m.bytes ≡ body entry ++ drop (end - m.at) m.bytes = cut m.bytes (body entry) left.bytes (end - m.at) fb.0.spells.parts size in
-    let whole : r.bytes ≡ (head entry ++ body entry) ++ drop (end - m.at) m.bytes =
-    fa.0.spells.parts ∙ ap (λ (x : List ℕ). x ++ m.bytes) (front_is entry position end fb.2 same) ∙ ap (λ (x : List ℕ). head entry ++ x) behind ∙ sym (append_assoc (head entry) (body entry) (drop (end - m.at) m.bytes)) in
-    let found : Begins r.bytes entry = record { right = right; small = omega (arith, fa.2); rest = drop (end - m.at) m.bytes; parts = whole } in
+    let ends : left.at ≡ h.end = eqb-true left.at h.end t.0 in
+    let placed : left.at ≡ m.at + length (body entry) = fb.found.spells.place in
+    let begun : m.at ≡ 16 = omega (arith, fa.found.spells.place, front_len v h, zero_at) in
+    let same : h.end ≡ record_length entry = omega arith in
+    let size : h.end - m.at ≡ length (body entry) = omega arith in
+    let behind : m.bytes ≡ body entry ++ drop (h.end - m.at) m.bytes = cut m.bytes (body entry) left.bytes (h.end - m.at) fb.found.spells.parts size in
+    let whole : r.bytes ≡ (head v entry ++ body entry) ++ drop (h.end - m.at) m.bytes =
+    fa.found.spells.parts ∙ ap (λ (x : List ℕ). x ++ m.bytes) (front_is v entry h fb.position fb.id fb.count same) ∙ ap (λ (x : List ℕ). head v entry ++ x) behind ∙ sym (append_assoc (head v entry) (body entry) (drop (h.end - m.at) m.bytes)) in
+    let found : Begins r.bytes entry = record { version = v; of_version = of-version v entry h fb.id fb.count fa.marked.has; right = fb.right; small = omega (arith, fa.small); rest = drop (h.end - m.at) m.bytes; parts = whole } in
     subst (λ (y : Entry). Begins r.bytes y) t.1 found
 
 database_entry : (zeros : Bool) (read : Result Entry ℕ) (e : Entry) (all : Result Db ℕ) → all ≡ Ok (Full e) → all ≡ cond zeros (Ok Empty) (read >>= λ x. Ok (Full x)) → read ≡ Ok e
@@ -218,10 +326,11 @@ database_found bytes e fits is =
     let read : entry_at r ≡ Ok e = database_entry (starts_with nat_eq bytes (0 ∷ 0 ∷ 0 ∷ 0 ∷ [])) (entry_at r) e (database bytes) is refl in
     let f = entry_found r e refl (IsBytes-take limit bytes fits) read in
     let all : List ℕ = f.rest ++ drop limit bytes in
-    let parts : bytes ≡ record_of e ++ all = sym (take-append-drop limit bytes) ∙ ap (λ (x : List ℕ). x ++ drop limit bytes) f.parts ∙ append_assoc (record_of e) f.rest (drop limit bytes) in
-    let long : record_length e ≤ length bytes = omega (arith, ap length parts, length-append (record_of e) all, record_len e) in
-    let rest : drop (record_length e) bytes ≡ all = ap (drop (record_length e)) parts ∙ drop_at (record_of e) all (record_length e) (record_len e) in
-    record { right = f.right; small = f.small; within = long; begins = parts ∙ ap (λ (x : List ℕ). record_of e ++ x) (sym rest) }
+    let v : Version = f.version in
+    let parts : bytes ≡ record_of v e ++ all = sym (take-append-drop limit bytes) ∙ ap (λ (x : List ℕ). x ++ drop limit bytes) f.parts ∙ append_assoc (record_of v e) f.rest (drop limit bytes) in
+    let long : record_length e ≤ length bytes = omega (arith, ap length parts, length-append (record_of v e) all, record_len v e) in
+    let rest : drop (record_length e) bytes ≡ all = ap (drop (record_length e)) parts ∙ drop_at (record_of v e) all (record_length e) (record_len v e) in
+    record { version = v; of_version = f.of_version; right = f.right; fits = f.small; within = long; begins = parts ∙ ap (λ (x : List ℕ). record_of v e ++ x) (sym rest) }
 
 -- so it is with what decoding gives
 pub found_of : (answer : Result Db DecodeFault) (bytes : List ℕ) → IsBytes bytes → Gives answer (database bytes) → IfOk answer (IfFull (IsFound bytes))

@@ -3,6 +3,7 @@ use Rattle.std.specs.Prelude.{◌≡◌, ℕ, ◌+◌, ◌-◌, zero, suc, Bool,
 use Rattle.std.specs.List.{starts_with}
 use Rattle.std.specs.Int.{Width, w8, w16, w32, byte_len, from_be_bytes}
 use Rattle.upd_text.specs.Order.{is_below, itself}
+use Rattle.upd_text.specs.Results.{◌>>=◌}
 use Rattle.provides_map.specs.Last.{key_of}
 use Rattle.flow_table.specs.declared.position.Position.{Position}
 use Rattle.flow_table.specs.Valid.{is_outcome, is_undoable, is_reboot, is_count}
@@ -14,17 +15,16 @@ use Rattle.record_codec.specs.declared.fault.DecodeFault.{DecodeFault}
 use Rattle.record_codec.specs.declared.fault.DecodeFault.TheVariants.{NotARecord, NoMemory}
 use Rattle.record_codec.specs.Keys.{is_name, is_value}
 use Rattle.record_codec.specs.Bytes.{states, outcomes, answers, reboots}
+use Rattle.record_codec.specs.declared.entry.Version.{Version}
+use Rattle.record_codec.specs.declared.entry.Version.TheVariants.{First, Second}
+use Rattle.record_codec.specs.declared.length.TheConstants.{LARGEST_RECORD, MOST_KINDS}
+use Rattle.record_codec.specs.declared.reader.whole.Head.{Head}
 use Rattle.record_codec.specs.Spelling.{is_kind, is_script, is_named}
 
 -- what is left to read: the bytes from an offset on
 pub record Rest : Type 0 where
   pub at : ℕ
   pub bytes : List ℕ
-
-infixl 10 ◌>>=◌
-abbrev pub ◌>>=◌ : {A B : Type 0} → Result A ℕ → (A → Result B ℕ) → Result B ℕ
-(Ok x) >>= f = f x
-(Err offset) >>= f = Err offset
 
 -- the next n bytes, where there are so many
 unfoldable pub bytes_at : ℕ → Rest → Result (List ℕ × Rest) ℕ
@@ -110,42 +110,65 @@ scripts_at r = do
   count ← number_at w8 (λ n. nat_le n 64) r
   items_at itself script_at count.0 [] count.1
 
+-- so many payload types
+unfoldable pub kinds_at : ℕ → Rest → Result (List (List ℕ) × Rest) ℕ
+kinds_at zero r = Ok ([], r)
+kinds_at (suc n) r = do
+  first ← text_at w8 is_kind r
+  others ← kinds_at n first.1
+  Ok (first.0 ∷ others.0, others.1)
+
 -- the fields from offset 16 on, with the offset where they end
-unfoldable pub body_at : Position → Rest → Result (Entry × Rest) ℕ
-body_at position r = do
+unfoldable pub body_at : Head → Rest → Result (Entry × Rest) ℕ
+body_at head r = do
   before ← map_at r
   new ← named_map_at before.1
-  kind ← text_at w8 is_kind new.1
-  scripts ← scripts_at kind.1
-  Ok (record { position = position; before = before.0; new = new.0; kind = kind.0; scripts = scripts.0 }, scripts.1)
+  kinds ← kinds_at head.count new.1
+  scripts ← scripts_at kinds.1
+  Ok (record { position = head.position; id = head.id; before = before.0; new = new.0; kinds = kinds.0; scripts = scripts.0 }, scripts.1)
 
 -- a length that a record may have
 abbrev pub is_length : ℕ → Bool
-is_length n = nat_le 16 n && nat_le n 131072
+is_length n = nat_le 16 n && nat_le n LARGEST_RECORD
 
 -- what lies before the record's end
 abbrev pub within : ℕ → Rest → Rest
 within end r = record { at = r.at; bytes = take (end - r.at) r.bytes }
 
--- the fields before the offset 16: the position, and the record's length
-unfoldable pub head_at : Rest → Result ((Position × ℕ) × Rest) ℕ
+-- the version, by the first four bytes
+unfoldable pub version_at : Rest → Result (Version × Rest) ℕ
+version_at r = if starts_with nat_eq r.bytes (codes "MUP1") then Ok (First, record { at = r.at + 4; bytes = drop 4 r.bytes }) else (literal_at (codes "MUP2") r >>= λ rest. Ok (Second, rest))
+
+abbrev pub is_kind_count : ℕ → Bool
+is_kind_count n = nat_le 1 n && nat_le n MOST_KINDS
+
+-- how many payload types there are, and the deployment's number
+unfoldable pub marks_at : Version → Rest → Result ((ℕ × ℕ) × Rest) ℕ
+marks_at First r = literal_at (0 ∷ 0 ∷ 0 ∷ []) r >>= λ rest. Ok ((1, 0), rest)
+marks_at Second r = do
+  count ← number_at w8 is_kind_count r
+  id ← number_at w16 any count.1
+  Ok ((count.0, id.0), id.1)
+
+-- the fields before the offset 16
+unfoldable pub head_at : Rest → Result (Head × Rest) ℕ
 head_at r = do
-  magic ← literal_at (codes "MUP1") r
-  position ← position_at magic
-  zeros ← literal_at (0 ∷ 0 ∷ 0 ∷ []) position.1
-  end ← number_at w32 is_length zeros
-  Ok ((position.0, end.0), end.1)
+  version ← version_at r
+  position ← position_at version.1
+  marks ← marks_at version.0 position.1
+  end ← number_at w32 is_length marks.1
+  Ok (record { position = position.0; count = marks.0.0; id = marks.0.1; end = end.0 }, end.1)
 
 -- all fields, the last of which ends at the record's length
 unfoldable pub entry_at : Rest → Result Entry ℕ
 entry_at r = do
   head ← head_at r
-  entry ← body_at head.0.0 (within head.0.1 head.1)
-  if entry.1.at == head.0.1 then Ok entry.0 else Err entry.1.at
+  entry ← body_at head.0 (within head.0.end head.1)
+  if entry.1.at == head.0.end then Ok entry.0 else Err entry.1.at
 
 -- the most bytes that a record has
 unfoldable pub limit : ℕ
-limit = 131072
+limit = LARGEST_RECORD
 
 -- four zero bytes, or a record
 unfoldable pub database : List ℕ → Result Db ℕ

@@ -1,8 +1,8 @@
 -- The record of an entry, and which entries have one.
-use Rattle.std.specs.Prelude.{◌≡◌, ℕ, ◌+◌, ◌<◌, ◌≤◌, ◌^◌, Bool, false, ◌&&◌, not, ◌==◌, nat_le, List, [], ◌∷◌, ◌++◌, length, drop, IsTrue, codes, Option, Some, None}
-use Rattle.std.specs.List.{flat_map, list_any, AllByRecursion}
-use Rattle.std.specs.Str.{bytes_eq}
+use Rattle.std.specs.Prelude.{◌≡◌, ℕ, ◌+◌, ◌<◌, ◌≤◌, ◌^◌, Bool, false, ◌&&◌, nat_le, List, [], ◌∷◌, ◌++◌, length, drop, IsTrue, codes, Option, Some, None, ⊤}
+use Rattle.std.specs.List.{flat_map, AllByRecursion}
 use Rattle.std.specs.Int.{w16, w32, to_be_bytes}
+use Rattle.upd_text.specs.Parts.{is_plain}
 use Rattle.flow_table.specs.Valid.{is_valid}
 use Rattle.flow_table.specs.declared.position.Position.{Position}
 use Rattle.provides_map.specs.Pairs.{Pairs, get, IsMap}
@@ -11,6 +11,9 @@ use Rattle.script_names.specs.Scripts.{AreScripts, is_artifact_script}
 use Rattle.record_codec.specs.Keys.{is_name}
 use Rattle.record_codec.specs.Bytes.{state_byte, outcome_byte, answer_byte, reboot_byte}
 use Rattle.record_codec.specs.declared.entry.Entry.{Entry}
+use Rattle.record_codec.specs.declared.entry.Version.{Version}
+use Rattle.record_codec.specs.declared.entry.Version.TheVariants.{First, Second}
+use Rattle.record_codec.specs.declared.length.TheConstants.{LARGEST_RECORD, MOST_KINDS}
 use Rattle.record_codec.specs.declared.entry.Db.{Db}
 use Rattle.record_codec.specs.declared.entry.Db.TheVariants.{Empty, Full}
 
@@ -27,6 +30,9 @@ pair p = long_text p.0 ++ long_text p.1
 unfoldable pub pairs : Pairs → List ℕ
 pairs ps = to_be_bytes w16 (length ps) ++ flat_map pair ps
 
+unfoldable pub kinds : List (List ℕ) → List ℕ
+kinds names = flat_map short_text names
+
 unfoldable pub scripts : List (List ℕ) → List ℕ
 scripts names = length names ∷ flat_map short_text names
 
@@ -36,21 +42,31 @@ position_bytes p = state_byte p.state ∷ outcome_byte p.outcome ∷ answer_byte
 
 -- what stands from offset 16 on
 unfoldable pub body : Entry → List ℕ
-body e = pairs e.before ++ pairs e.new ++ short_text e.kind ++ scripts e.scripts
+body e = pairs e.before ++ pairs e.new ++ kinds e.kinds ++ scripts e.scripts
 
 abbrev pub record_length : Entry → ℕ
 record_length e = 16 + length (body e)
 
--- MUP1, the position, three zeros, and the length
-unfoldable pub head : Entry → List ℕ
-head e = codes "MUP1" ++ position_bytes e.position ++ (0 ∷ 0 ∷ 0 ∷ []) ++ to_be_bytes w32 (record_length e)
+-- what a record of this version begins with
+abbrev pub magic : Version → List ℕ
+magic First = codes "MUP1"
+magic Second = codes "MUP2"
 
-unfoldable pub record_of : Entry → List ℕ
-record_of e = head e ++ body e
+-- the three bytes behind the position: zeros, or how many payload types there are and the deployment's number
+abbrev pub marks : Version → Entry → List ℕ
+marks First e = 0 ∷ 0 ∷ 0 ∷ []
+marks Second e = length e.kinds ∷ to_be_bytes w16 e.id
 
--- a name without / that is neither . nor ..
+-- the fields before the offset 16
+unfoldable pub head : Version → Entry → List ℕ
+head v e = magic v ++ position_bytes e.position ++ marks v e ++ to_be_bytes w32 (record_length e)
+
+unfoldable pub record_of : Version → Entry → List ℕ
+record_of v e = head v e ++ body e
+
+-- a name that may be one part of a path
 unfoldable pub is_kind : List ℕ → Bool
-is_kind name = is_name name && not (list_any (λ b. b == 47) name) && not (bytes_eq name (codes ".")) && not (bytes_eq name (codes ".."))
+is_kind name = is_name name && is_plain name
 
 -- the name of a script that an artifact may bring
 unfoldable pub is_script : List ℕ → Bool
@@ -72,16 +88,26 @@ pub record IsRight (e : Entry) : Type 0 where
   pub new : IsMap e.new
   pub new_fits : length e.new < 2 ^ 16
   pub named : HasName e.new
-  pub kind : IsTrue (is_kind e.kind)
+  pub kinds : AllByRecursion (λ kind. IsTrue (is_kind kind)) e.kinds
+  pub some : 1 ≤ length e.kinds
+  pub few : length e.kinds ≤ MOST_KINDS
+  pub small : e.id < 2 ^ 16
   pub scripts : AreScripts e.scripts
   pub brought : AllByRecursion (λ name. IsTrue (is_artifact_script name)) e.scripts
 
--- the bytes begin with the record of a right entry
+-- an entry that has a record of this version: in version 1 it has one payload type and the number 0
+abbrev pub HasVersion : Version → Entry → Type 0
+HasVersion First e = (length e.kinds ≡ 1) × (e.id ≡ 0)
+HasVersion Second e = ⊤
+
+-- the bytes begin with a record of a right entry
 pub record IsFound (bytes : List ℕ) (e : Entry) : Type 0 where
+  pub version : Version
+  pub of_version : HasVersion version e
   pub right : IsRight e
-  pub small : record_length e ≤ 131072
+  pub fits : record_length e ≤ LARGEST_RECORD
   pub within : record_length e ≤ length bytes
-  pub begins : bytes ≡ record_of e ++ drop (record_length e) bytes
+  pub begins : bytes ≡ record_of version e ++ drop (record_length e) bytes
 
 -- a fact of the entry, where there is one
 abbrev pub IfFull : (Entry → Type 0) → Db → Type 0

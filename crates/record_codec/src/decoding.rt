@@ -1,18 +1,19 @@
 //! What bytes stand for.
 
-ghost use Rattle.std.specs.Prelude.{◌≡◌, ◌≤◌, ℕ, List, ◌++◌, Ok, IfOk};
+ghost use Rattle.std.specs.Prelude.{◌≡◌, ◌≤◌, ℕ, List, ◌++◌, Ok, IfOk, nat_eq};
+ghost use Rattle.std.specs.List.{starts_with};
 ghost use Rattle.record_codec.specs.Reading.{Gives, database};
-ghost use Rattle.record_codec.specs.Spelling.{IsRight, IsFound, IfFull, record_of, record_length};
+ghost use Rattle.record_codec.specs.Spelling.{magic, HasVersion, IsRight, IsFound, IfFull, record_of, record_length};
 ghost use Rattle.record_codec.specs.declared.entry.Entry.{Entry};
+ghost use Rattle.record_codec.specs.declared.entry.Version.{Version};
+ghost use Rattle.record_codec.specs.declared.entry.Version.TheVariants.{First};
 ghost use Rattle.record_codec.specs.declared.entry.Db.TheVariants.{Full};
 
 use crate::entry::Db;
 use crate::fault::DecodeFault;
+use crate::length::LARGEST_RECORD;
 use crate::reader::{Reader, front};
 use std::alloc::Global;
-
-/// The most bytes that a record has.
-const LIMIT: usize = 131_072;
 
 #[tactic(auto, unfolding(crate::specs::Reading::database, crate::specs::Reading::limit))]
 fn database(alloc: Global, bytes: &[u8]) -> Result<Db, DecodeFault>
@@ -21,8 +22,15 @@ fn database(alloc: Global, bytes: &[u8]) -> Result<Db, DecodeFault>
     if bytes.starts_with(&[0, 0, 0, 0]) {
         return Ok(Db::Empty);
     }
-    let mut reader = Reader::new(front(bytes, LIMIT));
+    let mut reader = Reader::new(front(bytes, LARGEST_RECORD as usize));
     Ok(Db::Full(reader.entry(alloc)?))
+}
+
+/// Whether bytes begin as a record of the first version does.
+pub fn is_first_version(bytes: &[u8]) -> bool
+    ensures { result ≡ starts_with nat_eq bytes.now (magic First) }
+{
+    bytes.starts_with(b"MUP1")
 }
 
 /// What the database holds by these bytes: nothing behind four zero bytes, or the entry whose record
@@ -33,7 +41,7 @@ pub fn decode(alloc: Global, bytes: &[u8]) -> Result<Db, DecodeFault>
     // What is read is right, and the bytes begin with its record.
     ensures found { IfOk result (IfFull (IsFound bytes.now)) }
     // What begins with a right record is read, unless memory runs out.
-    ensures only { (e : Entry) (rest : List ℕ) → IsRight e → record_length e ≤ 131072 → bytes.now ≡ record_of e ++ rest → Gives result (Ok (Full e)) }
+    ensures only { (v : Version) (e : Entry) (rest : List ℕ) → IsRight e → HasVersion v e → record_length e ≤ LARGEST_RECORD → bytes.now ≡ record_of v e ++ rest → Gives result (Ok (Full e)) }
 {
     database(alloc, bytes)
 }

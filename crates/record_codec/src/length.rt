@@ -1,11 +1,20 @@
 //! The length of an entry's record.
 
-ghost use Rattle.std.specs.Prelude.{◌≡◌, ◌≤◌, ◌+◌, ◌*◌, ◌^◌, length};
-ghost use Rattle.record_codec.specs.Spelling.{pairs, scripts, record_length};
+ghost use Rattle.std.specs.Prelude.{◌≡◌, ◌≤◌, ◌+◌, ◌*◌, ◌^◌, ℕ, length};
+ghost use Rattle.flow_table.specs.declared.position.Position.{Position};
+ghost use Rattle.provides_map.specs.After.{after};
+ghost use Rattle.record_codec.specs.Spelling.{pairs, kinds, scripts, record_length};
 
 use crate::entry::Entry;
-use provides_map::Provides;
+use provides_map::{Change, Provides, after_length};
 use script_names::ScriptList;
+use upd_text::KindList;
+
+/// The most bytes that a record has.
+pub const LARGEST_RECORD: u32 = 131_072;
+
+/// The most payload types that an entry has; it has at least one.
+pub const MOST_KINDS: u8 = 8;
 
 fn map_length(map: &Provides) -> u64
     ensures exact { result ≡ length (pairs map.now) }
@@ -30,15 +39,43 @@ fn scripts_length(list: &ScriptList) -> u64
     sum
 }
 
+fn kinds_length(list: &KindList) -> u64
+    ensures exact { result ≡ length (kinds list.now) }
+    ensures few { result ≤ 129 * 2 ^ 32 }
+{
+    let mut sum: u64 = 0;
+    for kind in list.as_slice() {
+        sum += 1 + kind.bytes().len() as u64;
+    }
+    sum
+}
+
 /// The length of the entry's record, also where it is more than a record may have.
-#[tactic(auto, unfolding(crate::specs::Spelling::body, crate::specs::Spelling::short_text))]
+#[tactic(auto, unfolding(crate::specs::Spelling::body))]
 pub fn encoded_length(entry: &Entry) -> u64
     ensures { result ≡ record_length entry.now }
 {
-    let kind = entry.kind.bytes().len() as u64;
     16 + map_length(&entry.before)
         + map_length(&entry.new)
-        + 1
-        + kind
+        + kinds_length(&entry.kinds)
         + scripts_length(&entry.scripts)
+}
+
+/// The length of the record of a deployment that begins over these provides: `encoded_length` of its entry, told before the
+/// map of what the change makes of them is made.
+#[tactic(auto, unfolding(crate::specs::Spelling::body))]
+pub fn begun_length(
+    before: &Provides,
+    change: &Change,
+    kinds: &KindList,
+    scripts: &ScriptList,
+) -> u64
+    ensures { (position : Position) (id : ℕ)
+        → result ≡ record_length (record { position = position; id = id; before = before.now; new = after before.now change.now; kinds = kinds.now; scripts = scripts.now }) }
+{
+    16 + map_length(before)
+        + 2
+        + after_length(before, change).bytes
+        + kinds_length(kinds)
+        + scripts_length(scripts)
 }

@@ -1,6 +1,7 @@
 //! The record of a deployment: read, written, and given another position.
 #![tactic(auto)]
 
+mod cell;
 mod decoding;
 mod entry;
 mod fault;
@@ -12,14 +13,15 @@ mod reader;
 mod text;
 mod writer;
 
-pub use decoding::decode;
-pub use entry::{Db, Entry};
+pub use cell::{decode_cell, encode_cell};
+pub use decoding::{decode, is_first_version};
+pub use entry::{Db, Entry, Version};
 pub use fault::DecodeFault;
 pub use laws::{
-    broken_marks_the_name, faults_of_the_front, one_record, one_spelling_of_positions,
-    records_differ_by_position,
+    broken_marks_the_name, faults_of_the_front, one_cell, one_record, one_spelling_of_positions,
+    records_are_read, records_differ_by_position,
 };
-pub use length::encoded_length;
+pub use length::{LARGEST_RECORD, MOST_KINDS, begun_length, encoded_length};
 pub use writer::{encode_into, patch};
 
 #[cfg(test)]

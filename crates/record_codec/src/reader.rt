@@ -1,12 +1,14 @@
 //! Reading the fields of a record from the left.
 
-ghost use Rattle.std.specs.Prelude.{◌≡◌, ◌≤◌, length, Ok, Err, MatchOption, MatchResult, take};
+ghost use Rattle.std.specs.Prelude.{◌≡◌, ◌≤◌, length, Ok, Err, OnErr, MatchOption, MatchResult, take};
 
+mod cell;
 mod fields;
 mod lists;
 mod whole;
 
 use crate::fault::Wrong;
+use crate::length::LARGEST_RECORD;
 use std::marker::Model;
 
 /// What is left to read, and at which offset of the record it stands.
@@ -19,12 +21,13 @@ pub(crate) struct Reader<'a> {
 impl<'a> Model for Reader<'a> {
     ghost use Rattle.std.specs.Prelude.{◌≤◌, ◌+◌, length};
     ghost use Rattle.record_codec.specs.Reading.{Rest};
+    ghost use Rattle.record_codec.specs.declared.length.TheConstants.{LARGEST_RECORD};
 
     ghost Value = { Rest };
 
     ghost view = { λ r. record { at = r.at; bytes = r.rest.now } };
 
-    ghost invariant = { λ r. r.at + length r.rest.now ≤ 131072 };
+    ghost invariant = { λ r. r.at + length r.rest.now ≤ LARGEST_RECORD };
 }
 
 impl<'a> Reader<'a> {
@@ -77,7 +80,7 @@ impl<'a> Reader<'a> {
         match self.bytes(4) {
             Some(digits) => {
                 let end = u32::from_be_bytes([digits[0], digits[1], digits[2], digits[3]]);
-                if 16 <= end && end <= 131_072 {
+                if 16 <= end && end <= LARGEST_RECORD {
                     Ok(end)
                 } else {
                     Err(Wrong { at })
@@ -89,7 +92,8 @@ impl<'a> Reader<'a> {
 
     #[tactic(auto, unfolding(crate::specs::Reading::literal_at))]
     fn literal(&mut self, text: &[u8]) -> Result<(), Wrong>
-        ensures { MatchResult result (λ _. literal_at text.now self.old ≡ Ok self.new) (λ e. literal_at text.now self.old ≡ Err e.at) }
+        ensures read { MatchResult result (λ _. literal_at text.now self.old ≡ Ok self.new) (λ e. literal_at text.now self.old ≡ Err e.at) }
+        ensures same { OnErr result (self.new ≡ self.old) }
     {
         if !self.rest.starts_with(text) {
             return Err(Wrong { at: self.at });

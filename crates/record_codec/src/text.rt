@@ -1,13 +1,12 @@
 //! Names, values and scripts of bytes.
 
 ghost use Rattle.std.specs.Prelude.{◌≡◌, if◌then◌else◌, Some, None};
-ghost use Rattle.provides_map.specs.After.{artifact_name};
 ghost use Rattle.record_codec.specs.Keys.{is_name, is_value};
 ghost use Rattle.record_codec.specs.Spelling.{is_kind, is_script, is_named};
 
-use provides_map::Provides;
+use provides_map::{Provides, name_key};
 use script_names::ScriptName;
-use upd_text::{Name, Value};
+use upd_text::{Name, Value, is_plain};
 
 /// The name of these bytes, where they are one.
 #[tactic(auto, using(crate::proofs::Texts::name_given))]
@@ -38,20 +37,12 @@ pub(crate) fn script_from(text: &[u8]) -> Option<ScriptName>
     Some(script)
 }
 
-/// Whether a payload type is a name without `/` that is neither `.` nor `..`.
+/// Whether a name may be a payload type.
 #[tactic(auto, unfolding(crate::specs::Spelling::is_kind), using(crate::proofs::Texts::name_true))]
 pub(crate) fn is_kind(name: &Name) -> bool
     ensures { result ≡ is_kind name.now }
 {
-    let bytes = name.bytes();
-    !bytes.contains(&b'/') && bytes != b".".as_slice() && bytes != b"..".as_slice()
-}
-
-#[tactic(auto, unfolding(upd_text::specs::Text::name_of))]
-fn name_key() -> Name
-    ensures { result ≡ artifact_name }
-{
-    Name::read(b"artifact_name").ok().unwrap()
+    is_plain(name.bytes())
 }
 
 /// Whether `artifact_name` is there, with 1 to 128 bytes.

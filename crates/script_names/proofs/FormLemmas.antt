@@ -82,7 +82,7 @@ place_some : (b : Bool) (s : Stage) (a : Action) (p : Place) → place_if b s a 
 place_some true s a p h = let e : record { stage = s; action = a } ≡ p = cc in (refl, ap (λ (q : Place). q.stage) e, ap (λ (q : Place). q.action) e)
 place_some false s a p h = absurd cc
 
-both_true : (a b : Bool) → a && b ≡ true → (a ≡ true) × (b ≡ true)
+pub both_true : (a b : Bool) → a && b ≡ true → (a ≡ true) × (b ≡ true)
 both_true true b h = (refl, h)
 both_true false b h = absurd cc
 

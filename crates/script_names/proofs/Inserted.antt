@@ -49,14 +49,14 @@ length_insert_at Greater x xs rest k h = omega arith
 
 -- ---- whether the name was there
 
-there_cons : (x : List ℕ) (xs : List (List ℕ)) (k : List ℕ) → Contains (x ∷ xs) k → (x ≡ k) ⊎ Contains xs k
+pub there_cons : (x : List ℕ) (xs : List (List ℕ)) (k : List ℕ) → Contains (x ∷ xs) k → (x ≡ k) ⊎ Contains xs k
 there_cons x xs k (zero, lt, e) = inl e
 there_cons x xs k (suc i, lt, e) = let within : i < length xs = omega arith in inr (i, within, e)
 
-contains_head : (x : List ℕ) (xs : List (List ℕ)) (k : List ℕ) → x ≡ k → Contains (x ∷ xs) k
+pub contains_head : (x : List ℕ) (xs : List (List ℕ)) (k : List ℕ) → x ≡ k → Contains (x ∷ xs) k
 contains_head x xs k e = (0, omega arith, e)
 
-contains_tail : (x : List ℕ) (xs : List (List ℕ)) (k : List ℕ) → Contains xs k → Contains (x ∷ xs) k
+pub contains_tail : (x : List ℕ) (xs : List (List ℕ)) (k : List ℕ) → Contains xs k → Contains (x ∷ xs) k
 contains_tail x xs k h = (suc h.0, omega (arith, h.1), h.2)
 
 above_all : (x : List ℕ) (xs : List (List ℕ)) (k : List ℕ) → AllByRecursion (λ y. byte_cmp x y ≡ Less) xs → Contains xs k → byte_cmp x k ≡ Less
@@ -113,7 +113,7 @@ stays_at Greater x xs rest k n is more (inr t) = elim (there_cons x xs n t) [
   | inr u ↦ (contains_tail x rest n (more (inr u)))
 ]
 
-none_there : (n : List ℕ) → Contains [] n → ⊥
+pub none_there : (n : List ℕ) → Contains [] n → ⊥
 none_there n h = omega (arith, h.1)
 
 -- a list with one more name holds that name and those that it held

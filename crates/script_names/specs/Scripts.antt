@@ -1,9 +1,10 @@
 -- Names of state scripts, and the list of them.
 use Rattle.std.specs.Prelude.{◌≡◌, ℕ, ◌+◌, ◌≤◌, ◌==◌, ◌&&◌, nat_eq, Bool, true, false, not, if◌then◌else◌, List, [], ◌∷◌, ◌++◌, length, drop, codes, Option, Some, None, filter}
-use Rattle.std.specs.List.{list_any, starts_with, AllByRecursion}
+use Rattle.std.specs.List.{starts_with, AllByRecursion}
 use Rattle.std.specs.List.Sorted.{IsStrictlySortedBy}
 use Rattle.std.specs.Option.{option_and_then, is_some}
 use Rattle.upd_text.specs.Text.{is_digit, IsName}
+use Rattle.upd_text.specs.Parts.{has_slash}
 use Rattle.script_names.specs.declared.place.Stage.{Stage}
 use Rattle.script_names.specs.declared.place.Stage.TheVariants.{Download, Install, Reboot, Commit, Rollback, RollbackReboot, Failure}
 use Rattle.script_names.specs.declared.place.Action.{Action}
@@ -37,7 +38,7 @@ place_if false s a = None
 
 -- where a script of this name runs, if it is one
 unfoldable pub place_of : List ℕ → Option Place
-place_of name = if list_any (λ b. b == 47) name then None else option_and_then (λ s. option_and_then (λ a. place_if (is_end a.1) s.0 a.0) (named actions s.1)) (named stages name)
+place_of name = if has_slash name then None else option_and_then (λ s. option_and_then (λ a. place_if (is_end a.1) s.0 a.0) (named actions s.1)) (named stages name)
 
 abbrev pub is_download : Stage → Bool
 is_download Download = true

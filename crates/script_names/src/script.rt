@@ -1,11 +1,9 @@
 //! One script's name, and lists of them.
 
 ghost use Rattle.std.specs.Prelude.{◌≡◌, ◌≤◌, ◌<◌, ◌+◌, ◌++◌, ◌∷◌, [], length, drop, codes, Option, Some, None, nat_eq, OnOk, OnErr, slice_get, IfSome, MatchOption, IsErrOf, IfOk, IfErr, ◌↔◌, IsTrue};
-ghost use Rattle.std.specs.List.{list_any, starts_with};
 ghost use Rattle.std.specs.Option.{is_some};
 ghost use Rattle.upd_text.specs.Text.{is_digit};
 ghost use Rattle.upd_text.specs.Order.{is_below};
-ghost use Rattle.std.specs.Prelude.{◌==◌};
 ghost use Rattle.script_names.specs.Scripts.{place_of, stages, actions, named, is_end, AreScripts, is_artifact_script, last_script};
 
 mod adding;
@@ -14,7 +12,7 @@ use crate::place::{Action, Place, Stage};
 pub use adding::AddFault;
 use std::alloc::Global;
 use std::marker::Model;
-use upd_text::{Name, NoMemory};
+use upd_text::{Name, NoMemory, has_slash};
 
 /// A name that says where the script runs.
 #[derive(Drop)]
@@ -92,12 +90,6 @@ fn is_end(text: &[u8]) -> bool
         [_, _, _] => false,
         [a, b, c, _, ..] => is_digit(*a) && is_digit(*b) && *c == 95,
     }
-}
-
-fn has_slash(text: &[u8]) -> bool
-    ensures { result ≡ list_any (λ b. b == 47) text.now }
-{
-    text.iter().any(|b| *b == 47)
 }
 
 #[tactic(auto, unfolding(crate::specs::Scripts::place_of))]

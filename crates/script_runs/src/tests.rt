@@ -42,6 +42,7 @@ fn script_of(alloc: Global, answers: AnswerList, losses: LossList, cuts: CallLis
         answers,
         supports: Answer::Exit(0),
         needs: Answer::Exit(0),
+        others: AnswerList::new(alloc),
         losses,
         cuts,
         faults: CallList::new(alloc),

@@ -1,3 +1,8 @@
-pub mod Reading
-pub mod Put
-pub mod Held
+pub mod Areas
+pub mod Disks
+pub mod Cells
+pub mod Records
+pub mod Puts
+pub mod Spared
+pub mod Mounts
+pub mod Zeros

@@ -1,14 +1,15 @@
 -- Putting an entry at another position.
-use Rattle.std.specs.Prelude.{◌≡◌, ◌⊎◌, ℕ, ◌-◌, ◌≤◌, List, [], ◌++◌, length, take, Option, IfSome, ⊤}
+use Rattle.std.specs.Prelude.{◌≡◌, ◌⊎◌, ℕ, ◌%◌, false, List, [], length, drop, Option, IfSome, Ok, ⊤}
 use Rattle.flow_table.specs.declared.position.Position.{Position}
+use Rattle.record_codec.specs.declared.entry.Entry.{Entry}
 use Rattle.record_codec.specs.declared.entry.Db.{Db}
 use Rattle.record_codec.specs.declared.entry.Db.TheVariants.{Empty, Full}
-use Rattle.record_codec.specs.Spelling.{record_of, IsRight, IfFull}
-use Rattle.device_model.specs.Disk.{Disk, MayHold, IsTold}
-use Rattle.device_model.specs.State.{State}
-use Rattle.device_model.specs.How.{How, EndsAs, loss_at, work_after}
-use Rattle.slot_store.specs.Slots.{IsAt, IsOf, picked_slot}
-use Rattle.slot_store.specs.Mount.{Kept}
+use Rattle.device_model.specs.Disk.{Disk, MayHold, ChangesOnly, IsTold, IsRefilled, IsApart, area_of}
+use Rattle.device_model.specs.State.{State, after_write, after_sync}
+use Rattle.device_model.specs.How.{How, Passed}
+use Rattle.slot_store.specs.Slots.{slot_start, cells_start, stood, Stands, IsAt, cell_selector}
+use Rattle.slot_store.specs.Kept.{Kept, IsOf, IsPicked, HasRecord}
+use Rattle.slot_store.specs.declared.layout.TheConstants.{SLOT_0, CELLS}
 
 -- there is an entry
 abbrev pub IsFull : Db → Type 0
@@ -20,48 +21,61 @@ abbrev pub moved : Position → Db → Db
 moved position Empty = Empty
 moved position (Full e) = Full (record e { position = position })
 
--- the record of the entry, or nothing
-abbrev pub record_in : Db → List ℕ
-record_in Empty = []
-record_in (Full e) = record_of e
-
--- the first bytes of a slot are the record of what is kept, and its entry is right
-pub record IsHeld (slot : List ℕ) (size : ℕ) (db : Db) : Type 0 where
-  pub whole : length slot ≡ 131072
-  pub within : size ≤ 131072
-  pub begins : take size slot ≡ record_in db
-  pub right : IfFull IsRight db
-
-abbrev pub BeginsWith : List ℕ → List ℕ → Type 0
-BeginsWith front bytes = take (length front) bytes ≡ front
-
--- nothing was started and the work folder wasn't changed: at most power was lost or the disk failed
+-- nothing happened but what became of the disk
 pub record Wrote (how : How) (old new : State) : Type 0 where
-  pub ends : EndsAs how old new
-  pub journal : new.journal ≡ old.journal ++ loss_at new.on
-  pub room : new.room ≡ old.room - length (loss_at new.on)
-  pub work : new.work ≡ work_after new.on old.work
+  pub passed : Passed [] how old new
   pub told : IsTold old.disk → IsTold new.disk
 
--- an area that the disk may hold, with this slot picked
-pub record Picked (disk : Option Disk) (slot : List ℕ) : Type 0 where
-  pub area : List ℕ
-  pub held : MayHold disk area
-  pub same : slot ≡ picked_slot area
+-- an area that the disk may hold, which stands for what this one stands for
+pub record StandsAs (disk : Option Disk) (area : List ℕ) : Type 0 where
+  pub before : List ℕ
+  pub held : MayHold disk before
+  pub same : stood area ≡ stood before
 
--- the picked slot of each area that new may hold is that of one that old may hold, or it begins with these bytes
-abbrev pub Picks : List ℕ → Option Disk → Option Disk → Type 0
-Picks bytes old new = (area : List ℕ) → MayHold new area → Picked old (picked_slot area) ⊎ BeginsWith bytes (picked_slot area)
+-- each area that new may hold stands for what one stands for that old may hold, or for this entry
+abbrev pub Turns : Entry → Option Disk → Option Disk → Type 0
+Turns e old new = (area : List ℕ) → MayHold new area → StandsAs old area ⊎ (stood area ≡ Ok (Full e))
 
--- these bytes stand in the slot that is picked, synced
-pub record IsReplaced (picked : ℕ) (bytes : List ℕ) (old new : State) : Type 0 where
-  pub room : new.room ≡ old.room
-  pub is_of : IsOf picked new.disk
-  pub begins : IfSome new.disk (λ d. BeginsWith bytes (picked_slot d.area))
+-- the disk stands for this entry, synced; this slot is picked and has its record, and this cell of it is picked
+pub record Holds (e : Entry) (picked cell : ℕ) (disk : Disk) : Type 0 where
+  pub slot : IsPicked picked disk
+  pub record_there : HasRecord (Full e) cell disk.area
+  pub stands : stood disk.area ≡ Ok (Full e)
+
+-- this slot is picked, and this cell of it
+pub record IsCellPicked (picked cell : ℕ) (disk : Disk) : Type 0 where
+  pub slot : IsPicked picked disk
+  pub of_slot : cell_selector disk.area % 2 ≡ cell
+
+-- where the slots begin
+unfoldable pub slots_start : ℕ
+slots_start = SLOT_0
+
+-- the slots have the same bytes
+abbrev pub SameSlots : List ℕ → List ℕ → Type 0
+SameSlots old new = drop slots_start new ≡ drop slots_start old
+
+-- the slots of the disk are those of this area, also after a loss
+pub record KeepsSlots (old : List ℕ) (disk : Option Disk) : Type 0 where
+  pub reads : IfSome (area_of disk) (SameSlots old)
+  pub holds : (area : List ℕ) → MayHold disk area → SameSlots old area
 
 -- the store is of the device, which stands for what it holds, synced
 pub record IsPut (meant : Db) (store : Kept) (old new : State) : Type 0 where
   pub db : store.db ≡ meant
-  pub is_of : IsOf store.picked new.disk
+  pub stands : IfSome (area_of new.disk) (λ area. Stands area store.db)
+  pub is_of : IsOf store new.disk
   pub is_at : IsAt store.db new.disk
   pub room : new.room ≡ old.room
+  pub put : store.loaded ≡ false
+
+-- what new may hold is what old may hold, with any bytes in this slot's first bytes and in its cells
+abbrev pub IsStaged : ℕ → ℕ → Option Disk → Option Disk → Type 0
+IsStaged slot count old new = (area : List ℕ) → MayHold new area
+    → (before : List ℕ) × (between : List ℕ) × MayHold old before × IsRefilled (IsApart (slot_start slot) count) before between × IsRefilled (IsApart (cells_start slot) CELLS) between area
+
+-- The bytes at a place were written, in part at least, and nothing else; or they were written and synced, and then the byte
+-- that picks the place, in part at least.
+abbrev pub Replaces : ℕ → List ℕ → ℕ → State → Option Disk → Type 0
+Replaces at bytes selector old new = ChangesOnly at (length bytes) old.disk new
+    ⊎ (ChangesOnly at (length bytes) old.disk (after_sync (after_write at bytes old)).disk × ChangesOnly selector 1 (after_sync (after_write at bytes old)).disk new)

@@ -1,6 +1,7 @@
 ghost use Rattle.std.specs.Prelude.{◌≡◌, ◌<◌, ◌+◌, ◌^◌, [], ◌∷◌, ◌++◌, length, slice_get, Some, OnOk, OnErr};
 ghost use Rattle.std.specs.Prelude.{slice_index_or};
 
+use crate::name::Name;
 use std::alloc::{AllocError, AllocFailed, Global};
 use std::marker::Model;
 
@@ -42,6 +43,9 @@ impl<T> Model for ListOf<T> {
 
 /// Numbers of calls, counted from 0.
 pub type CallList = ListOf<u64>;
+
+/// Payload types, one for each payload in order.
+pub type KindList = ListOf<Name>;
 
 impl<T> ListOf<T> {
     /// No items. It takes no memory yet.

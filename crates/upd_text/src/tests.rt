@@ -1,6 +1,6 @@
 use crate::{
-    CallList, ListOf, Name, NameFault, NoMemory, Text32, Value, decimal, read_decimal,
-    read_device_type,
+    CallList, ListOf, Name, NameFault, NoMemory, Text32, Value, decimal, has_slash, is_plain,
+    read_decimal, read_device_type,
 };
 use std::alloc::Global;
 use std::test::Fail;
@@ -148,4 +148,21 @@ fn lists_grow(rt: HostRuntime) -> Result<(), Fail> {
     assert_eq!(rt; *list.at(0), 0);
     assert_eq!(rt; *list.at(39), 117);
     Ok(())
+}
+
+#[test]
+fn parts_of_paths(rt: HostRuntime) {
+    let cases = [
+        ("", false, true),
+        ("a", false, true),
+        (".", false, false),
+        ("..", false, false),
+        ("...", false, true),
+        ("a/b", true, false),
+        ("/", true, false),
+    ];
+    for (text, slash, plain) in cases {
+        assert_eq!(rt; has_slash(text.as_bytes()), slash);
+        assert_eq!(rt; is_plain(text.as_bytes()), plain);
+    }
 }

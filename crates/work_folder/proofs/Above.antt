@@ -1,8 +1,9 @@
 -- The next name in byte order.
-use Rattle.std.proofs.Common.{◌≡◌, ◌⊎◌, inl, inr, ℕ, ◌+◌, ◌<◌, ◌≤◌, Bool, true, false, cond, List, [], ◌∷◌, ◌++◌, length, get_or, Option, Some, None, Ordering, Less, Equal, Greater, refl, sym, ◌∙◌, ap, length-drop, take, arith}
+use Rattle.std.proofs.Common.{◌≡◌, ◌⊎◌, inl, inr, ℕ, ◌+◌, ◌<◌, ◌≤◌, Bool, true, false, cond, eqb, List, [], ◌∷◌, ◌++◌, length, get_or, Option, Some, None, Ordering, Less, Equal, Greater, refl, sym, ◌∙◌, ap, length-drop, take, arith}
 use Rattle.std.specs.Prelude.{MatchOption, codes, suc, zero}
 use Rattle.std.specs.List.{All, Contains, cons_option}
 use Rattle.std.specs.Ordering.{is_lt, is_eq, ordering_reverse}
+use Rattle.std.proofs.lemmas.Bool.Decides.{nat_tests}
 use Rattle.std.proofs.lemmas.Cmp.{nat_list_cmp_total}
 use Rattle.std.proofs.lemmas.Map.Text.{is_eq-slice_cmp}
 use Rattle.std.proofs.lemmas.Slice.Eq.{bytes_eq-Decides}
@@ -11,9 +12,11 @@ use Rattle.std.proofs.lemmas.List.{take_more}
 use Rattle.upd_text.specs.Order.{byte_cmp, is_below}
 use Rattle.upd_text.proofs.OrderLemmas.{less}
 use Rattle.manifest_sums.specs.declared.manifest.Line.{Line}
-use Rattle.work_folder.specs.Rows.{part_in, payload_names}
+use Rattle.admit.specs.Places.{place_of, payload_at}
+use Rattle.admit.proofs.Placed.{payload_path}
+use Rattle.upd_text.proofs.FormLemmas.{name_is}
+use Rattle.work_folder.specs.Rows.{name_in, payload_names}
 use Rattle.work_folder.specs.Adding.{IsLast, IsNext}
-use Rattle.work_folder.proofs.Parts.{is_part}
 
 pub both : {A : Type 0} (b : Bool) → b ≡ true → b ≡ false → A
 both true h k = absurd cc
@@ -116,26 +119,37 @@ fewer_above names last next h = count_fewer (λ n. is_below last n) (λ n. is_be
 
 -- ---- no name is empty
 
-some_behind : (folder path : List ℕ) (o : Option (List ℕ)) (names : List (List ℕ)) → part_in folder path ≡ o → All (λ n. 0 < length n) names → All (λ n. 0 < length n) (cons_option o names)
-some_behind folder path None names e h = h
-some_behind folder path (Some name) names e h =
-    let p = is_part folder path name e in
-    let long : length name ≡ _ = ap (λ (l : List ℕ). length l) p.rest ∙ length-drop (length folder) path in
-    All-cons (λ n. 0 < length n) name names (omega (arith, long, p.longer)) h
+-- the name is that of a file of payload k
+pub named_file : (k : ℕ) (o : Option (ℕ × List ℕ)) (name : List ℕ) → name_in k o ≡ Some name → o ≡ Some (k, name)
+named_file k None name h = absurd cc
+named_file k (Some file) name h = by_number (eqb file.0 k) refl h
+  where
+    by_number : (b : Bool) → b ≡ eqb file.0 k → cond b (Some file.1) None ≡ Some name → Some file ≡ Some (k, name)
+    by_number true e g =
+        let number : file.0 ≡ k = grind (arith, nat_tests) in
+        let same : file.1 ≡ name = cc in
+        ap (λ (n : ℕ). Some (n, file.1)) number ∙ ap (λ (l : List ℕ). Some (k, l)) same
+    by_number false e g = absurd cc
 
-pub none_empty : (lines : List Line) → All (λ n. 0 < length n) (payload_names lines)
-none_empty [] = All-nil (λ n. 0 < length n)
-none_empty (line ∷ lines) = some_behind (codes "data/0000/") line.path (part_in (codes "data/0000/") line.path) (payload_names lines) refl (none_empty lines)
+some_behind : (k : ℕ) (path : List ℕ) (o : Option (List ℕ)) (names : List (List ℕ)) → name_in k (payload_at (place_of path)) ≡ o → All (λ n. 0 < length n) names → All (λ n. 0 < length n) (cons_option o names)
+some_behind k path None names e h = h
+some_behind k path (Some name) names e h =
+    let text = (name_is name).0 ((payload_path path k name (named_file k (payload_at (place_of path)) name e)).file.name) in
+    All-cons (λ n. 0 < length n) name names (omega (arith, text.some)) h
+
+pub none_empty : (k : ℕ) (lines : List Line) → All (λ n. 0 < length n) (payload_names k lines)
+none_empty k [] = All-nil (λ n. 0 < length n)
+none_empty k (line ∷ lines) = some_behind k line.path (name_in k (payload_at (place_of line.path))) (payload_names k lines) refl (none_empty k lines)
 
 above_nothing : (name : List ℕ) → 0 < length name → is_below [] name ≡ true
 above_nothing [] h = absurd (omega arith)
 above_nothing (b ∷ name) h = refl
 
-pub all_above_nothing : (lines : List Line) (name : List ℕ) → Contains (payload_names lines) name → is_below [] name ≡ true
-all_above_nothing lines name c = above_nothing name (All-contains (λ n. 0 < length n) (payload_names lines) name (none_empty lines) c)
+pub all_above_nothing : (k : ℕ) (lines : List Line) (name : List ℕ) → Contains (payload_names k lines) name → is_below [] name ≡ true
+all_above_nothing k lines name c = above_nothing name (All-contains (λ n. 0 < length n) (payload_names k lines) name (none_empty k lines) c)
 
 -- ---- one line more is looked at
 
-pub payload_names-more : (lines : List Line) (i : ℕ) (line : Line) → i < length lines → line ≡ get_or lines i line → payload_names (take (i + 1) lines) ≡ payload_names (take i lines) ++ cons_option (part_in (codes "data/0000/") line.path) []
-payload_names-more lines i line lt is =
-    ap payload_names (take_more lines i line lt) ∙ filter_map-append (λ l. part_in (codes "data/0000/") l.path) (take i lines) (get_or lines i line ∷ []) ∙ ap (λ (l : Line). payload_names (take i lines) ++ cons_option (part_in (codes "data/0000/") l.path) []) (sym is)
+pub payload_names-more : (k : ℕ) (lines : List Line) (i : ℕ) (line : Line) → i < length lines → line ≡ get_or lines i line → payload_names k (take (i + 1) lines) ≡ payload_names k (take i lines) ++ cons_option (name_in k (payload_at (place_of line.path))) []
+payload_names-more k lines i line lt is =
+    ap (payload_names k) (take_more lines i line lt) ∙ filter_map-append (λ (l : Line). name_in k (payload_at (place_of l.path))) (take i lines) (get_or lines i line ∷ []) ∙ ap (λ (l : Line). payload_names k (take i lines) ++ cons_option (name_in k (payload_at (place_of l.path))) []) (sym is)

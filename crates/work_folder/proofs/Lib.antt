@@ -1,8 +1,12 @@
 pub mod Copying
+pub mod Copied
+pub mod Touched
 pub mod Steps
 pub mod Parts
 pub mod Above
 pub mod Listing
 pub mod Lines
+pub mod Headers
 pub mod Places
 pub mod Filled
+pub mod Payloads

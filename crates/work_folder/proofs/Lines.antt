@@ -1,16 +1,13 @@
 -- Lines beside the numbers of their files.
-use Rattle.std.proofs.Common.{◌≡◌, ℕ, ◌+◌, ◌<◌, Bool, true, false, cond, List, [], ◌∷◌, ◌++◌, length, get_or, take, drop, Option, Some, refl, sym, ◌∙◌, ap, arith, suc, drop-cons}
+use Rattle.std.proofs.Common.{◌≡◌, ℕ, ◌+◌, ◌<◌, Bool, true, false, cond, List, [], ◌∷◌, ◌++◌, length, get_or, take, drop, Option, Some, refl, sym, ◌∙◌, ap, append_assoc, arith, suc, drop-cons}
 use Rattle.std.specs.Prelude.{find, zero}
-use Rattle.std.specs.List.{All, Any, Contains, zip, filter_map, cons_option}
-use Rattle.std.proofs.lemmas.List.{take_more}
-use Rattle.std.proofs.lemmas.List.Elements.{All-nil, All-cons, All-head, All-tail, filter_map-append}
+use Rattle.std.specs.List.{All, Contains, zip, filter, filter_map, cons_option}
+use Rattle.std.proofs.lemmas.List.{take_more, take-append-drop}
+use Rattle.std.proofs.lemmas.List.Elements.{All-nil, All-cons, All-head, All-tail, filter-append, filter_map-append}
 use Rattle.std.proofs.lemmas.Slice.Zip.{length-zip, get_or-zip}
 use Rattle.manifest_sums.specs.declared.manifest.Line.{Line}
 use Rattle.io_model.specs.Source.{Content}
-use Rattle.work_folder.specs.declared.fault.PrepareFault.{PrepareFault}
-use Rattle.work_folder.specs.declared.fault.PrepareFault.TheVariants as fault
-use Rattle.work_folder.specs.Rows.{Listed}
-use Rattle.work_folder.specs.Prepare.{IsDiffering, IsDifferingIn, IfFaultDiffers}
+use Rattle.admit.specs.Differing.{Listed}
 
 module _ {A : Type 0} (p : A → Bool) where
   here : (y : A) (ys : List A) (x : A) (b : Bool) → cond b (Some y) (find p ys) ≡ Some x → (find p ys ≡ Some x → Contains ys x) → Contains (y ∷ ys) x
@@ -35,15 +32,6 @@ of_numbers P [] numbers h = All-nil (λ (r : Listed). P r.1)
 of_numbers P (line ∷ lines) [] h = All-nil (λ (r : Listed). P r.1)
 of_numbers P (line ∷ lines) (n ∷ numbers) h = All-cons (λ (r : Listed). P r.1) (line, n) (zip lines numbers) (All-head P n numbers h) (of_numbers P lines numbers (All-tail P n numbers h))
 
-pub any_among : {A : Type 0} (P : A → Type 0) (xs : List A) (x : A) → Contains xs x → P x → Any P xs
-any_among P xs x c h = (c.0, x, c.1, c.2, h)
-
-pub differs_among : (fault : PrepareFault) (content : Content) (listed : List Listed) (l : Listed) → Contains listed l → IfFaultDiffers fault (IsDiffering content l) → IfFaultDiffers fault (IsDifferingIn content listed)
-differs_among fault.Off content listed l c h = tt
-differs_among fault.DiskFault content listed l c h = tt
-differs_among fault.SourceFault content listed l c h = tt
-differs_among (fault.Differs d) content listed l c h = any_among (λ l. IsDiffering content l d) listed l c h
-
 -- ---- the line at an index
 
 pub pair_within : (lines : List Line) (numbers : List ℕ) (i : ℕ) → i < length lines → length numbers ≡ length lines → i < length (zip lines numbers)
@@ -52,16 +40,17 @@ pair_within lines numbers i lt same = omega (arith, length-zip lines numbers)
 pub pair_at : (lines : List Line) (numbers : List ℕ) (i : ℕ) (line : Line) → i < length lines → length numbers ≡ length lines → line ≡ get_or lines i line → get_or (zip lines numbers) i (line, 0) ≡ (line, get_or numbers i 0)
 pair_at lines numbers i line lt same is = get_or-zip lines numbers i (line, 0) lt (omega arith) ∙ ap (λ (x : Line). (x, get_or numbers i 0)) (sym is)
 
-any_default : (ns : List ℕ) (i d : ℕ) → i < length ns → get_or ns i d ≡ get_or ns i 0
-any_default [] i d lt = absurd (omega arith)
-any_default (n ∷ ns) zero d lt = refl
-any_default (n ∷ ns) (suc i) d lt = any_default ns i d (omega arith)
-
-pub pair_among : (lines : List Line) (numbers : List ℕ) (i : ℕ) (line : Line) → i < length lines → length numbers ≡ length lines → line ≡ get_or lines i line → Contains (zip lines numbers) (line, get_or numbers i 0)
-pair_among lines numbers i line lt same is =
-    (i, pair_within lines numbers i lt same, get_or-zip lines numbers i (line, get_or numbers i 0) lt (omega arith) ∙ ap (λ (x : Line). (x, get_or numbers i (get_or numbers i 0))) (sym is) ∙ ap (λ (n : ℕ). (line, n)) (any_default numbers i (get_or numbers i 0) (omega arith)))
-
 pub filter_map-more : {B : Type 0} (f : Listed → Option B) (lines : List Line) (numbers : List ℕ) (i : ℕ) (line : Line) → i < length lines → length numbers ≡ length lines → line ≡ get_or lines i line → filter_map f (take (i + 1) (zip lines numbers)) ≡ filter_map f (take i (zip lines numbers)) ++ cons_option (f (line, get_or numbers i 0)) []
 filter_map-more f lines numbers i line lt same is =
     let pairs = zip lines numbers in
     ap (λ l. filter_map f l) (take_more pairs i (line, 0) (pair_within lines numbers i lt same)) ∙ filter_map-append f (take i pairs) (get_or pairs i (line, 0) ∷ []) ∙ ap (λ l. filter_map f (take i pairs) ++ cons_option (f l) []) (pair_at lines numbers i line lt same is)
+
+pub filter-more : (p : Listed → Bool) (lines : List Line) (numbers : List ℕ) (i : ℕ) (line : Line) → i < length lines → length numbers ≡ length lines → line ≡ get_or lines i line → filter p (take (i + 1) (zip lines numbers)) ≡ filter p (take i (zip lines numbers)) ++ filter p ((line, get_or numbers i 0) ∷ [])
+filter-more p lines numbers i line lt same is =
+    let pairs = zip lines numbers in
+    ap (λ l. filter p l) (take_more pairs i (line, 0) (pair_within lines numbers i lt same)) ∙ filter-append p (take i pairs) (get_or pairs i (line, 0) ∷ []) ∙ ap (λ l. filter p (take i pairs) ++ filter p (l ∷ [])) (pair_at lines numbers i line lt same is)
+
+pub filter-whole : (p : Listed → Bool) (lines : List Line) (numbers : List ℕ) (i : ℕ) (line : Line) → i < length lines → length numbers ≡ length lines → line ≡ get_or lines i line → filter p (zip lines numbers) ≡ filter p (take i (zip lines numbers)) ++ (filter p ((line, get_or numbers i 0) ∷ []) ++ filter p (drop (i + 1) (zip lines numbers)))
+filter-whole p lines numbers i line lt same is =
+    let pairs = zip lines numbers in
+    ap (λ l. filter p l) (sym (take-append-drop (i + 1) pairs)) ∙ filter-append p (take (i + 1) pairs) (drop (i + 1) pairs) ∙ ap (λ l. l ++ filter p (drop (i + 1) pairs)) (filter-more p lines numbers i line lt same is) ∙ append_assoc (filter p (take i pairs)) (filter p ((line, get_or numbers i 0) ∷ [])) (filter p (drop (i + 1) pairs))

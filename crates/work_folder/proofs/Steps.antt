@@ -1,5 +1,5 @@
 -- Files added one stretch after the other.
-use Rattle.std.proofs.Common.{◌≡◌, ℕ, ◌-◌, List, [], ◌∷◌, ◌++◌, length, refl, sym, ◌∙◌, ap, subst, append-nil, map, arith}
+use Rattle.std.proofs.Common.{◌≡◌, ℕ, Bool, true, List, [], ◌∷◌, ◌++◌, length, refl, sym, ◌∙◌, ap, subst, append-nil, map, arith}
 use Rattle.std.specs.Prelude.{Option, Some, None, option_map}
 use Rattle.std.specs.List.{AllZip}
 use Rattle.manifest_sums.specs.declared.manifest.Line.{Line}
@@ -8,8 +8,9 @@ use Rattle.device_model.specs.declared.calls.Part.{Part}
 use Rattle.device_model.specs.declared.calls.Part.TheVariants.{Tree}
 use Rattle.device_model.specs.Work.{File, Work, with_bytes}
 use Rattle.device_model.specs.State.{State, after_work}
-use Rattle.device_model.specs.How.{How, Through, loss_at}
-use Rattle.device_model.proofs.Waits.{ends-then}
+use Rattle.upd_text.specs.Told.{WhereTold}
+use Rattle.device_model.specs.How.{How, Through, Passed, work_after}
+use Rattle.device_model.proofs.Passes.{passed-then}
 use Rattle.work_folder.specs.Rows.{Row, Value, Names, Copy}
 use Rattle.work_folder.specs.Folder.{Lists, IsCopy, IsRow}
 use Rattle.work_folder.specs.Prepare.{Touches}
@@ -30,8 +31,8 @@ adding-append (x ∷ xs) ys w = adding-append xs ys (with_bytes x.part x.path x.
 pub values_then : (xs ys : List File) (old mid new : State) → AddsValues xs old mid → AddsValues ys mid new → AddsValues (xs ++ ys) old new
 values_then xs ys old mid new a b = after_work-two (adding xs) (adding ys) (adding (xs ++ ys)) (adding-append xs ys) old mid new a b
 
-pub value_step : (path bytes meant : List ℕ) (old new : State) → bytes ≡ meant → new ≡ after_work (with_bytes (Tree 0) path bytes) old → AddsValues (value_file path meant ∷ []) old new
-value_step path bytes meant old new e h = subst (λ (b : List ℕ). new ≡ after_work (with_bytes (Tree 0) path b) old) e h
+pub value_step : (k : ℕ) (path bytes meant : List ℕ) (old new : State) → bytes ≡ meant → new ≡ after_work (with_bytes (Tree k) path bytes) old → AddsValues (value_file k path meant ∷ []) old new
+value_step k path bytes meant old new e h = subst (λ (b : List ℕ). new ≡ after_work (with_bytes (Tree k) path b) old) e h
 
 pub AllZip-append : {A B : Type 0} (R : A → B → Type 0) (xs more : List A) (ys others : List B) → AllZip R xs ys → AllZip R more others → AllZip R (xs ++ more) (ys ++ others)
 AllZip-append R [] more [] others h k = k
@@ -56,17 +57,29 @@ adds_names content part path bytes names old new l h = record { files = record {
 pub adds_copy : (content : Content) (part : Part) (path bytes : List ℕ) (n : ℕ) (sum : List ℕ) (old new : State) → IsCopy content n sum bytes → new ≡ after_work (with_bytes part path bytes) old → Adds content (Copy part path n sum ∷ []) old new
 adds_copy content part path bytes n sum old new l h = record { files = record { part = part; path = path; bytes = bytes } ∷ []; are = ((refl, refl, l), tt); added = h }
 
-on-nothing : (old mid : State) → Touches Through old mid → loss_at mid.on ≡ []
-on-nothing old mid a = ap loss_at a.ends.on
+both_told : (a b c : Option Work) → WhereTold (λ x y. Unit {0}) a b → WhereTold (λ x y. Unit {0}) b c → WhereTold (λ x y. Unit {0}) a c
+both_told None None None h k = tt
+both_told None None (Some z) h k = absurd k
+both_told None (Some y) c h k = absurd h
+both_told (Some x) None c h k = absurd h
+both_told (Some x) (Some y) None h k = absurd k
+both_told (Some x) (Some y) (Some z) h k = tt
 
 -- two stretches, of which the first went through
 pub touches_then : (how : How) (old mid new : State) → Touches Through old mid → Touches how mid new → Touches how old new
 touches_then how old mid new a b =
-    let none = on-nothing old mid a in
+    let on : mid.on ≡ true = a.passed.ends.on in
+    let left : mid.work ≡ a.ready = a.passed.work ∙ ap (λ (o : Bool). work_after o a.ready) on in
+    let first : Passed [] Through (record old { work = b.ready }) (record mid { work = b.ready }) = record {
+      ends = record { on = on; losses = a.passed.ends.losses; faults = a.passed.ends.faults };
+      journal = a.passed.journal;
+      room = a.passed.room;
+      work = sym (ap (λ (o : Bool). work_after o b.ready) on);
+    } in
     record {
-      ends = ends-then how old mid new a.ends b.ends;
-      journal = b.journal ∙ ap (λ j. j ++ loss_at new.on) (a.journal ∙ ap (λ l. old.journal ++ l) none ∙ append-nil old.journal);
-      room = b.room ∙ ap (λ n. n - length (loss_at new.on)) (a.room ∙ ap (λ l. old.room - length l) none ∙ omega arith);
+      ready = b.ready;
+      told = both_told old.work a.ready b.ready a.told (subst (λ (w : Option Work). WhereTold (λ x y. Unit {0}) w b.ready) left b.told);
+      passed = passed-then [] [] how (record old { work = b.ready }) (record mid { work = b.ready }) new first b.passed;
       disk = b.disk ∙ a.disk;
     }
 

@@ -32,24 +32,25 @@ pub record Adds (content : Content) (rows : List Row) (old new : State) : Type 0
 abbrev pub AddsValues : List File → State → State → Type 0
 AddsValues files old new = new ≡ after_work (adding files) old
 
-abbrev pub value_file : List ℕ → List ℕ → File
-value_file path bytes = record { part = Tree 0; path = path; bytes = bytes }
+-- in the folder of payload k
+abbrev pub value_file : ℕ → List ℕ → List ℕ → File
+value_file k path bytes = record { part = Tree k; path = path; bytes = bytes }
 
 -- what the device is and holds
-abbrev pub current_files : Site → Pairs → List File
-current_files site held =
-    value_file (codes "version") (codes "3")
-    ∷ value_file (codes "current_artifact_name") (or_nothing (get held artifact_name))
-    ∷ value_file (codes "current_artifact_group") (or_nothing (get held artifact_group))
-    ∷ value_file (codes "current_device_type") site.device_type
+abbrev pub current_files : ℕ → Site → Pairs → List File
+current_files k site held =
+    value_file k (codes "version") (codes "3")
+    ∷ value_file k (codes "current_artifact_name") (or_nothing (get held artifact_name))
+    ∷ value_file k (codes "current_artifact_group") (or_nothing (get held artifact_group))
+    ∷ value_file k (codes "current_device_type") site.device_type
     ∷ []
 
--- what the artifact is
-abbrev pub artifact_files : HeaderInfo → List File
-artifact_files header =
-    value_file (codes "header/artifact_name") header.name
-    ∷ value_file (codes "header/artifact_group") (or_nothing header.group)
-    ∷ value_file (codes "header/payload_type") header.kind
+-- what the artifact is, and its payload of this type
+abbrev pub artifact_files : ℕ → HeaderInfo → List ℕ → List File
+artifact_files k header kind =
+    value_file k (codes "header/artifact_name") header.name
+    ∷ value_file k (codes "header/artifact_group") (or_nothing header.group)
+    ∷ value_file k (codes "header/payload_type") kind
     ∷ []
 
 -- so many bytes were added to the file and to what is summed; where the source's files are told, they are the file's from

@@ -1,17 +1,21 @@
 -- What preparing the work folder leaves, by its answer.
-use Rattle.std.specs.Prelude.{◌≡◌, ◌≢◌, ℕ, ◌-◌, ◌≤◌, true, List, ◌++◌, length, Result, Ok, Err}
-use Rattle.std.specs.List.{Any}
+use Rattle.std.specs.Prelude.{◌≡◌, ℕ, ◌+◌, ◌≤◌, true, false, List, [], map, option_map, Option, Some, None, Result, Ok, Err, ⊤}
+use Rattle.std.specs.List.{Contains}
 use Rattle.sha2.specs.Sha256.{sha256}
 use Rattle.upd_text.specs.Counts.{counted}
-use Rattle.io_model.specs.Source.{Content, bytes_at}
+use Rattle.upd_text.specs.Told.{WhereTold}
+use Rattle.io_model.specs.Source.{Tree, Content, bytes_at, gave}
+use Rattle.io_model.specs.Reading.{AreRead, IsAtMost}
 use Rattle.device_model.specs.Disk.{IsSettled}
+use Rattle.device_model.specs.Work.{Work}
 use Rattle.device_model.specs.State.{State}
-use Rattle.device_model.specs.How.{How, Through, PowerLost, DiskFailed, EndsAs, loss_at}
+use Rattle.device_model.specs.How.{How, Through, PowerLost, DiskFailed, Passed}
 use Rattle.admit.specs.Told.{When}
 use Rattle.admit.specs.declared.refusal.Differs.{Differs}
 use Rattle.work_folder.specs.declared.fault.PrepareFault.{PrepareFault}
 use Rattle.work_folder.specs.declared.fault.PrepareFault.TheVariants as fault
-use Rattle.work_folder.specs.Rows.{Listed}
+use Rattle.admit.specs.Table.{first_some}
+use Rattle.admit.specs.Differing.{Listed, IsDiffering, differing}
 
 -- the device is on and nothing of its disk is unsynced
 pub record IsReady (state : State) : Type 0 where
@@ -41,33 +45,47 @@ abbrev pub source_after : {T : Type 0} → Result T PrepareFault → ℕ → ℕ
 source_after (Ok x) n = n
 source_after (Err e) n = after_fault e n
 
--- Of the device only the work folder was touched: no event but a loss, and the disk is as it was.
+-- Of the device only the work folder was touched: from the folder that the calls left on, nothing happened but what cut them
+-- off, and the disk is as it was.
 pub record Touches (how : How) (old new : State) : Type 0 where
-  pub ends : EndsAs how old new
-  pub journal : new.journal ≡ old.journal ++ loss_at new.on
-  pub room : new.room ≡ old.room - length (loss_at new.on)
+  pub ready : Option Work
+  pub told : WhereTold (λ a b. ⊤) old.work ready
+  pub passed : Passed [] how (record old { work = ready }) new
   pub disk : new.disk ≡ old.disk
 
--- another sum was found than the one of this line; where the source's files are told, it is the sum of the line's file
-pub record IsDiffering (content : Content) (listed : Listed) (d : Differs) : Type 0 where
-  pub path : d.path ≡ listed.0.path
-  pub sum : d.listed ≡ listed.0.sum
-  pub other : d.found ≢ listed.0.sum
-  pub found : When content (λ t. d.found ≡ sha256 (bytes_at t listed.1))
-
--- the sum of one of the listed files
-abbrev pub IsDifferingIn : Content → List Listed → Differs → Type 0
-IsDifferingIn content listed d = Any (λ l. IsDiffering content l d) listed
-
+-- of the sum that was found, where that is the fault
 abbrev pub IfFaultDiffers : PrepareFault → (Differs → Type 0) → Type 0
 IfFaultDiffers fault.Off P = Unit {0}
 IfFaultDiffers fault.DiskFault P = Unit {0}
 IfFaultDiffers fault.SourceFault P = Unit {0}
 IfFaultDiffers (fault.Differs d) P = P d
 
-abbrev pub IfDiffers : {T : Type 0} → Result T PrepareFault → (Differs → Type 0) → Type 0
-IfDiffers (Ok x) P = Unit {0}
-IfDiffers (Err e) P = IfFaultDiffers e P
+-- ---- what was copied
+
+-- of file i some bytes were read, which end within it where they begin at this place
+pub record GaveFrom (content : Content) (i at : ℕ) (old new : Option (List ℕ)) : Type 0 where
+  pub count : ℕ
+  pub within : IsAtMost content i (at + count)
+  pub is : new ≡ option_map (gave i count) old
+
+-- the files of these lines
+abbrev pub files_of : List Listed → List ℕ
+files_of copied = map (λ l. l.1) copied
+
+-- the first of these lines whose sum isn't that of its file
+abbrev pub first_wrong : Tree → List Listed → Option Differs
+first_wrong t copied = first_some (λ l. differing l.0 (sha256 (bytes_at t l.1))) copied
+
+-- the files of these lines were copied, each read once for each copy, each with the listed sum
+pub record CopiesAll (content : Content) (copied : List Listed) (old new : Option (List ℕ)) : Type 0 where
+  pub read : When content (λ t. WhereTold (AreRead true t (files_of copied)) old new)
+  pub right : When content (λ t. first_wrong t copied ≡ None)
+
+-- the first of them were copied, and of the next a part was read; what differs is the first that does
+pub record CopiesSome (content : Content) (copied : List Listed) (fault : PrepareFault) (old new : Option (List ℕ)) : Type 0 where
+  pub read : When content (λ t. WhereTold (AreRead false t (files_of copied)) old new)
+  pub wrong : IfFaultDiffers fault (λ d. When content (λ t. first_wrong t copied ≡ Some d))
+  pub among : IfFaultDiffers fault (λ d. (l : Listed) × Contains copied l × IsDiffering content l d)
 
 -- a fault of the device
 abbrev pub IsOfDevice : PrepareFault → Type 0
@@ -77,4 +95,5 @@ IsOfDevice fault.SourceFault = ⊥
 IsOfDevice (fault.Differs d) = ⊥
 
 abbrev pub NeverDiffers : {T : Type 0} → Result T PrepareFault → Type 0
-NeverDiffers r = IfDiffers r (λ d. ⊥)
+NeverDiffers (Ok x) = Unit {0}
+NeverDiffers (Err e) = IfFaultDiffers e (λ d. ⊥)

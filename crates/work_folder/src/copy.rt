@@ -1,9 +1,10 @@
 //! Copying the files of the source.
 
-ghost use Rattle.std.specs.Prelude.{◌≡◌, ◌<◌, ◌≤◌, ◌∷◌, [], length, IfOk, OnOk};
-ghost use Rattle.io_model.specs.Source.{count_of, InFile};
+ghost use Rattle.std.specs.Prelude.{◌≡◌, ◌<◌, ◌≤◌, ◌∷◌, [], length, option_map, IfOk, IfErr, OnOk, OnErr};
+ghost use Rattle.io_model.specs.Source.{count_of, gave, InFile, IsLength};
+ghost use Rattle.io_model.specs.Reading.{Gave, IsAtMost};
 ghost use Rattle.work_folder.specs.Rows.{Copy};
-ghost use Rattle.work_folder.specs.Prepare.{IsReady, Touches, IsDiffering, IfDiffers, NeverDiffers, prepare_how, source_after};
+ghost use Rattle.work_folder.specs.Prepare.{IsReady, Touches, NeverDiffers, GaveFrom, CopiesAll, CopiesSome, prepare_how, source_after};
 ghost use Rattle.work_folder.specs.Adding.{Adds, CopiesPiece, Copies};
 
 use crate::append::append;
@@ -32,6 +33,8 @@ fn copy_piece<D: Device, S: Source>(
     ensures plan { D.plan device.new ≡ D.plan device.old }
     ensures source_plan { S.plan source.new ≡ S.plan source.old }
     ensures same { S.content source.new ≡ S.content source.old }
+    ensures given { IfOk result (λ n. S.given source.new ≡ option_map (gave i n) (S.given source.old)) }
+    ensures stopped { OnErr result (GaveFrom (S.content source.old) i at (S.given source.old) (S.given source.new)) }
     ensures counts { S.faults source.new ≡ source_after result (S.faults source.old) }
     ensures touches { Touches (prepare_how result) (D.means device.old) (D.means device.new) }
     ensures ready { OnOk result (IsReady (D.means device.new)) }
@@ -44,12 +47,16 @@ fn copy_piece<D: Device, S: Source>(
         Ok(count) => count,
         Err(SourceFault) => return Err(PrepareFault::SourceFault),
     };
-    append(device, part, path, &into[..count])?;
+    match append(device, part, path, &into[..count]) {
+        Ok(()) => {}
+        Err(fault) => return Err(fault),
+    }
     summing.piece(&into[..count]);
     Ok(count)
 }
 
 /// Copies a file, and answers its sum.
+#[tactic(auto, using(crate::proofs::Steps::touches_then, io_model::proofs::Readings::given_none, io_model::proofs::Readings::gave_of, io_model::proofs::Readings::gave_nothing, io_model::proofs::Readings::none_at_all))]
 pub(crate) fn copy_file<D: Device, S: Source>(
     device: &mut D,
     source: &mut S,
@@ -67,6 +74,8 @@ pub(crate) fn copy_file<D: Device, S: Source>(
     ensures counts { S.faults source.new ≡ source_after result (S.faults source.old) }
     ensures touches { Touches (prepare_how result) (D.means device.old) (D.means device.new) }
     ensures ready { OnOk result (IsReady (D.means device.new)) }
+    ensures given { OnOk result (Gave i (IsLength (S.content source.old) i) (S.given source.old) (S.given source.new)) }
+    ensures stopped { OnErr result (Gave i (IsAtMost (S.content source.old) i) (S.given source.old) (S.given source.new)) }
     ensures differs { NeverDiffers result }
     ensures file { IfOk result (λ sum. Copies part path.now (S.content source.old) i (D.means device.old) (D.means device.new) sum) }
 {
@@ -79,7 +88,7 @@ pub(crate) fn copy_file<D: Device, S: Source>(
     let mut at: u64 = 0;
     'pieces: while at < size {
         let count = u64::min(size - at, buffer.len() as u64) as usize;
-        let n = copy_piece(
+        match copy_piece(
             device,
             source,
             part,
@@ -88,8 +97,10 @@ pub(crate) fn copy_file<D: Device, S: Source>(
             at,
             &mut buffer[..count],
             &mut summing,
-        )?;
-        at += n as u64;
+        ) {
+            Ok(n) => at += n as u64,
+            Err(fault) => return Err(fault),
+        }
     }
     Ok(summing.finish())
 }
@@ -113,10 +124,14 @@ pub(crate) fn copy_line<D: Device, S: Source>(
     ensures counts { S.faults source.new ≡ source_after result (S.faults source.old) }
     ensures touches { Touches (prepare_how result) (D.means device.old) (D.means device.new) }
     ensures ready { OnOk result (IsReady (D.means device.new)) }
-    ensures differs { IfDiffers result (IsDiffering (S.content source.old) (line.now, n)) }
+    ensures copied { OnOk result (CopiesAll (S.content source.old) ((line.now, n) ∷ []) (S.given source.old) (S.given source.new)) }
+    ensures stopped { IfErr result (λ fault. CopiesSome (S.content source.old) ((line.now, n) ∷ []) fault (S.given source.old) (S.given source.new)) }
     ensures done { OnOk result (Adds (S.content source.old) (Copy part path.now n line.now.sum ∷ []) (D.means device.old) (D.means device.new)) }
 {
-    let found = copy_file(device, source, part, path, n, buffer)?;
+    let found = match copy_file(device, source, part, path, n, buffer) {
+        Ok(found) => found,
+        Err(fault) => return Err(fault),
+    };
     if line.sum.is(&found) {
         return Ok(());
     }

@@ -1,9 +1,10 @@
-//! The files of the payload, and the scripts.
+//! The files of the payloads, and the scripts.
 
-ghost use Rattle.std.specs.Prelude.{◌≡◌, ◌≤◌, ◌++◌, length, None, Some, MatchOption};
+ghost use Rattle.std.specs.Prelude.{◌≡◌, ◌≤◌, ◌++◌, length};
 ghost use Rattle.upd_text.specs.Text.{IsName};
-ghost use Rattle.work_folder.specs.Rows.{part_in, place_of};
+ghost use Rattle.work_folder.specs.Rows.{target_of};
 
+use admit::{TreePlace, place_of};
 use arrayvec::ArrayVec;
 use device_model::Part;
 use upd_text::Name;
@@ -13,16 +14,6 @@ use upd_text::Name;
 pub(crate) enum Group {
     Payload,
     Scripts,
-}
-
-/// What stands behind the folder in a path.
-pub(crate) fn part_in<'a>(folder: &[u8], path: &'a [u8]) -> Option<&'a [u8]>
-    ensures { MatchOption result (part_in folder.now path.now ≡ None) (λ part. part_in folder.now path.now ≡ Some part.now) }
-{
-    if path.starts_with(folder) && folder.len() < path.len() {
-        return Some(path.split_at(folder.len()).1);
-    }
-    None
 }
 
 /// The name of these bytes.
@@ -48,18 +39,17 @@ fn joined(front: &[u8], back: &[u8]) -> ArrayVec<u8, 128>
 }
 
 /// Where a file goes, if it is of the group.
-pub(crate) fn place_of(group: Group, path: &Name) -> Option<(Part, Name)>
-    ensures { result ≡ place_of group path.now }
+pub(crate) fn target_of(group: Group, path: &Name) -> Option<(Part, Name)>
+    ensures { result ≡ target_of group path.now }
 {
-    match group {
-        Group::Payload => {
-            let part = part_in(b"data/0000/", path.bytes())?;
-            let text = joined(b"files/", part);
-            Some((Part::Tree(0), name(text.as_slice())))
+    // The prover learns from it that the path is a name, so that the target is short enough.
+    let _name = path.bytes();
+    match (group, place_of(path)) {
+        (Group::Payload, TreePlace::Payload(k, file)) => {
+            let text = joined(b"files/", file.bytes());
+            Some((Part::Tree(k), name(text.as_slice())))
         }
-        Group::Scripts => {
-            let part = part_in(b"header/scripts/", path.bytes())?;
-            Some((Part::Scripts, name(part)))
-        }
+        (Group::Scripts, TreePlace::Script(script)) => Some((Part::Scripts, script)),
+        _ => None,
     }
 }

@@ -1,15 +1,25 @@
 //! Laws of the definitions, in the words of their subject.
 
-ghost use Rattle.std.specs.Prelude.{◌≡◌, List};
-ghost use Rattle.std.specs.List.{All};
-ghost use Rattle.sha2.specs.Sha256.{sha256};
-ghost use Rattle.io_model.specs.Source.{Tree, bytes_at};
+ghost use Rattle.std.specs.Prelude.{◌≡◌, ℕ, List, None, Ok};
+ghost use Rattle.io_model.specs.Source.{Tree};
 ghost use Rattle.io_model.specs.Source.Content.{Told};
-ghost use Rattle.admit.specs.declared.refusal.Differs.{Differs};
-ghost use Rattle.work_folder.specs.Rows.{Listed};
-ghost use Rattle.work_folder.specs.Prepare.{IsDifferingIn};
+ghost use Rattle.provides_map.specs.Pairs.{Pairs};
+ghost use Rattle.admit.specs.IsOf.{IsOf};
+ghost use Rattle.admit.specs.Admit.{head_plan_of, plan_of};
+ghost use Rattle.admit.specs.Differing.{listed_of, in_payload, first_differing};
+ghost use Rattle.admit.specs.declared.admitted.Admitted.{Admitted};
+ghost use Rattle.work_folder.specs.Rows.{copied_of};
+ghost use Rattle.work_folder.specs.Prepare.{first_wrong};
 
-/// Where the source tells its files, and each line's sum is that of its file, no sum differs.
+/// Once a told tree's head was admitted, the first copied file that differs is the first payload's
+/// file that does.
+pub fn only_payloads_differ()
+    ensures { (t : Tree) (type : List ℕ) (held : Pairs) (plan : Admitted) → IsOf (Told t) plan → head_plan_of t type held ≡ Ok plan
+        → first_wrong t (copied_of plan) ≡ first_differing in_payload t (listed_of plan) }
+{}
+
+/// Once a told tree was admitted, no copied file differs.
 pub fn right_sums_never_differ()
-    ensures { (t : Tree) (listed : List Listed) → All (λ l. sha256 (bytes_at t l.1) ≡ l.0.sum) listed → (d : Differs) → ¬ (IsDifferingIn (Told t) listed d) }
+    ensures { (t : Tree) (type : List ℕ) (held : Pairs) (plan : Admitted) → IsOf (Told t) plan → plan_of t type held ≡ Ok plan
+        → first_wrong t (copied_of plan) ≡ None }
 {}

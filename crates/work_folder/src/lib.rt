@@ -9,11 +9,12 @@ mod groups;
 mod header;
 mod laws;
 mod names;
+mod trees;
 mod values;
 
 pub use fault::PrepareFault;
 pub use fill::prepare;
-pub use laws::right_sums_never_differ;
+pub use laws::{only_payloads_differ, right_sums_never_differ};
 
 #[cfg(test)]
 mod tests;

@@ -28,8 +28,14 @@ const HEADER: &[u8] =
 const INFO: &[u8] =
     b"{\"type\":\"single-file\",\"artifact_provides\":{\"app.version\":\"2\"},\"clears_artifact_provides\":[\"app.*\"]}";
 
+/// The files of a tree but for its manifest.
+type Files = &'static [(&'static [u8], &'static [u8])];
+
 /// Files of the payload of one piece, of several, of none and of exactly one buffer, and a script.
-const MORE: &[(&[u8], &[u8])] = &[
+const ONE: Files = &[
+    (b"version", VERSION),
+    (b"header/header-info", HEADER),
+    (b"header/headers/0000/type-info", INFO),
     (b"data/0000/app.bin", b"abc"),
     (b"data/0000/long", b"abcdefghi"),
     (b"header/scripts/ArtifactInstall_Enter_00", b"#!"),
@@ -52,18 +58,10 @@ fn add(files: &mut FileList, text: &mut Vec<u8>, path: &[u8], bytes: &[u8]) -> R
     Ok(())
 }
 
-fn tree(alloc: Global) -> Result<FileList, Fail> {
+fn tree(alloc: Global, parts: Files) -> Result<FileList, Fail> {
     let mut files = FileList::new(alloc);
     let mut text = Vec::new(alloc);
-    add(&mut files, &mut text, b"version", VERSION)?;
-    add(&mut files, &mut text, b"header/header-info", HEADER)?;
-    add(
-        &mut files,
-        &mut text,
-        b"header/headers/0000/type-info",
-        INFO,
-    )?;
-    for (path, bytes) in MORE {
+    for (path, bytes) in parts {
         add(&mut files, &mut text, path, bytes)?;
     }
     if text.len() >= 1_000_000 {
@@ -88,6 +86,7 @@ fn device_of(alloc: Global, losses: LossList, faults: CallList) -> Result<MemDev
         answers: AnswerList::new(alloc),
         supports: Answer::Exit(0),
         needs: Answer::Exit(0),
+        others: AnswerList::new(alloc),
         losses,
         cuts: CallList::new(alloc),
         faults,
@@ -97,15 +96,16 @@ fn device_of(alloc: Global, losses: LossList, faults: CallList) -> Result<MemDev
     Ok(device)
 }
 
-/// What `prepare` answers of the tree, with a buffer of four bytes, and the device after it. The
+/// What `prepare` answers of a tree, with a buffer of four bytes, and the device after it. The
 /// source fails at a call; none where it does so before.
 fn prepared(
     alloc: Global,
+    parts: Files,
     failing: CallList,
     losses: LossList,
     faults: CallList,
 ) -> Result<Option<(Result<(), PrepareFault>, MemDevice)>, Fail> {
-    let mut source = MemSource::new(tree(alloc)?, failing);
+    let mut source = MemSource::new(tree(alloc, parts)?, failing);
     let site = site_of(alloc)?;
     let held = Provides::new(alloc);
     let Ok(admitted) = admit(alloc, &mut source, &site, &held) else {

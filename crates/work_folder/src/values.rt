@@ -38,9 +38,10 @@ fn text_of(name: &Option<Name>) -> &[u8]
     }
 }
 
-/// A file of the module's folder with these bytes.
+/// A file with these bytes, in the folder of payload k.
 pub(crate) fn put_value<D: Device>(
     device: &mut D,
+    k: u8,
     path: &[u8],
     bytes: &[u8],
 ) -> Result<(), PrepareFault>
@@ -50,16 +51,17 @@ pub(crate) fn put_value<D: Device>(
     ensures touches { Touches (prepare_how result) (D.means device.old) (D.means device.new) }
     ensures ready { OnOk result (IsReady (D.means device.new)) }
     ensures cause { IfErr result IsOfDevice }
-    ensures done { OnOk result (D.means device.new ≡ after_work (with_bytes (Tree 0) path.now bytes.now) (D.means device.old)) }
+    ensures done { OnOk result (D.means device.new ≡ after_work (with_bytes (Tree k) path.now bytes.now) (D.means device.old)) }
 {
     let path = name(path);
-    append(device, Part::Tree(0), &path, bytes)
+    append(device, Part::Tree(k), &path, bytes)
 }
 
 /// What the device is and holds.
-#[tactic(auto, unfolding(upd_text::specs::Text::name_of))]
+#[tactic(auto, using(crate::proofs::Steps::touches_then), unfolding(upd_text::specs::Text::name_of))]
 pub(crate) fn put_current<D: Device>(
     device: &mut D,
+    k: u8,
     site: &Site,
     held: &Provides,
 ) -> Result<(), PrepareFault>
@@ -68,40 +70,44 @@ pub(crate) fn put_current<D: Device>(
     ensures touches { Touches (prepare_how result) (D.means device.old) (D.means device.new) }
     ensures ready { OnOk result (IsReady (D.means device.new)) }
     ensures cause { IfErr result IsOfDevice }
-    ensures done { OnOk result (AddsValues (current_files site.now held.now) (D.means device.old) (D.means device.new)) }
+    ensures done { OnOk result (AddsValues (current_files k site.now held.now) (D.means device.old) (D.means device.new)) }
 {
     let artifact_name = name(b"artifact_name");
     let artifact_group = name(b"artifact_group");
-    put_value(device, b"version", b"3")?;
+    put_value(device, k, b"version", b"3")?;
     put_value(
         device,
+        k,
         b"current_artifact_name",
         held_value(held, &artifact_name),
     )?;
     put_value(
         device,
+        k,
         b"current_artifact_group",
         held_value(held, &artifact_group),
     )?;
-    put_value(device, b"current_device_type", site.device_type.bytes())?;
+    put_value(device, k, b"current_device_type", site.device_type.bytes())?;
     Ok(())
 }
 
-/// What the artifact is.
-#[tactic(auto, unfolding(upd_text::specs::Text::name_of))]
+/// What the artifact is, and its payload of this type.
+#[tactic(auto, using(crate::proofs::Steps::touches_then), unfolding(upd_text::specs::Text::name_of))]
 pub(crate) fn put_artifact<D: Device>(
     device: &mut D,
+    k: u8,
     header: &HeaderInfo,
+    kind: &Name,
 ) -> Result<(), PrepareFault>
     requires { IsReady (D.means device.old) }
     ensures plan { D.plan device.new ≡ D.plan device.old }
     ensures touches { Touches (prepare_how result) (D.means device.old) (D.means device.new) }
     ensures ready { OnOk result (IsReady (D.means device.new)) }
     ensures cause { IfErr result IsOfDevice }
-    ensures done { OnOk result (AddsValues (artifact_files header.now) (D.means device.old) (D.means device.new)) }
+    ensures done { OnOk result (AddsValues (artifact_files k header.now kind.now) (D.means device.old) (D.means device.new)) }
 {
-    put_value(device, b"header/artifact_name", header.name.bytes())?;
-    put_value(device, b"header/artifact_group", text_of(&header.group))?;
-    put_value(device, b"header/payload_type", header.kind.bytes())?;
+    put_value(device, k, b"header/artifact_name", header.name.bytes())?;
+    put_value(device, k, b"header/artifact_group", text_of(&header.group))?;
+    put_value(device, k, b"header/payload_type", kind.bytes())?;
     Ok(())
 }

@@ -1,7 +1,7 @@
 //! Trees at the limits.
 
 use super::rows::A;
-use super::{add_file, add_line, answer_of, name_of, number_of};
+use super::{add_file, add_line, answer_of, text_of};
 use crate::{AdmitFault, Admitted};
 use io_model::FileList;
 use std::alloc::Global;
@@ -89,24 +89,23 @@ fn answer(alloc: Global, crowd: &Crowd) -> Result<Result<Admitted, AdmitFault>, 
 }
 
 /// Payload files, scripts, lines without a file, bytes of meta-data, upper case, and the answer.
-const LIMITS: [(u32, u32, u32, usize, bool, (u8, [u32; 2]), &[u8]); 9] = [
-    (2, 0, 0, 0, false, (0, [0, 0]), b""),
-    (251, 0, 0, 0, false, (0, [0, 0]), b""),
-    (252, 0, 0, 0, false, (3, [257, 0]), b""),
-    (251, 0, 1, 0, false, (11, [0, 0]), b"data/0000/0.none"),
-    (1, 64, 0, 0, false, (0, [0, 0]), b""),
-    (1, 65, 0, 0, false, (16, [65, 0]), b""),
-    (1, 0, 0, 65_536, false, (0, [0, 0]), b""),
+const LIMITS: [(u32, u32, u32, usize, bool, &[u8]); 9] = [
+    (2, 0, 0, 0, false, b"admitted\n"),
+    (251, 0, 0, 0, false, b"admitted\n"),
+    (252, 0, 0, 0, false, b"refused 3 257\n"),
+    (251, 0, 1, 0, false, b"refused 11 data/0000/0.none\n"),
+    (1, 64, 0, 0, false, b"admitted\n"),
+    (1, 65, 0, 0, false, b"refused 16 65\n"),
+    (1, 0, 0, 65_536, false, b"admitted\n"),
     (
         1,
         0,
         0,
         65_537,
         false,
-        (8, [0, 0]),
-        b"header/headers/0000/meta-data",
+        b"refused 8 header/headers/0000/meta-data\n",
     ),
-    (9, 0, 0, 1, true, (0, [0, 0]), b""),
+    (9, 0, 0, 1, true, b"admitted\n"),
 ];
 
 #[test]
@@ -120,8 +119,7 @@ fn limits(rt: HostRuntime) -> Result<(), Fail> {
             upper: row.4,
         };
         let found = answer(rt.alloc(), &crowd)?;
-        assert!(rt; number_of(&found) == row.5, "at {i}");
-        assert!(rt; name_of(&found) == row.6, "at {i}");
+        assert!(rt; text_of(&found).bytes() == row.5, "at {i}");
     }
     Ok(())
 }
@@ -129,7 +127,7 @@ fn limits(rt: HostRuntime) -> Result<(), Fail> {
 #[test]
 fn no_files(rt: HostRuntime) -> Result<(), Fail> {
     let found = answer_of(rt.alloc(), FileList::new(rt.alloc()), 9, b"x")?;
-    assert_eq!(rt; number_of(&found), (7, [0, 0]));
+    assert_eq!(rt; text_of(&found).bytes(), b"refused 7 version\n".as_slice());
     Ok(())
 }
 

@@ -1,15 +1,15 @@
 //! One tree, and what single changes of it make of the answer.
 
-use super::{add_file, add_line, answer_of, name_of, number_of};
+use super::{add_file, add_line, answer_of, text_of};
 use crate::{AdmitFault, Admitted};
 use io_model::FileList;
 use std::alloc::Global;
 use std::test::Fail;
 
-/// A number, its further numbers, and what is named.
-type Wanted = (u8, [u32; 2], &'static [u8]);
+/// What a user would read.
+type Wanted = &'static [u8];
 
-const ADMITTED: Wanted = (0, [0, 0], b"");
+const ADMITTED: Wanted = b"admitted\n";
 
 /// A tree of five files, and one more where `more` has a path; the manifest lists them but `more`,
 /// and as its second line `line`, where that has a path.
@@ -70,9 +70,7 @@ pub(super) fn answer(alloc: Global, row: &Row) -> Result<Result<Admitted, AdmitF
 }
 
 fn same(alloc: Global, row: &Row) -> Result<bool, Fail> {
-    let found = answer(alloc, row)?;
-    let (number, further) = number_of(&found);
-    Ok(number == row.wanted.0 && further == row.wanted.1 && name_of(&found) == row.wanted.2)
+    Ok(text_of(&answer(alloc, row)?).bytes() == row.wanted)
 }
 
 /// Of the tree with one file more, one line more, other bytes of the payload and other bytes that
@@ -86,7 +84,7 @@ const FILES: [(&[u8], &[u8], &[u8], &[u8], u64, Wanted); 15] = [
         b"abc",
         b"abd",
         99,
-        (18, [0, 0], b"data/0000/app.bin"),
+        b"refused 18 data/0000/app.bin a52d159f262b2c6ddb724a61840befc36eb30c88877a4030b65cbe86298449c9 ba7816bf8f01cfea414140de5dae2223b00361a396177a9cb410ff61f20015ad\n",
     ),
     (
         b"data/0000/x",
@@ -94,7 +92,7 @@ const FILES: [(&[u8], &[u8], &[u8], &[u8], u64, Wanted); 15] = [
         b"abc",
         b"abc",
         99,
-        (10, [0, 0], b"data/0000/x"),
+        b"refused 10 data/0000/x\n",
     ),
     (
         b"",
@@ -102,7 +100,7 @@ const FILES: [(&[u8], &[u8], &[u8], &[u8], u64, Wanted); 15] = [
         b"abc",
         b"abc",
         99,
-        (11, [0, 0], b"data/0000/y"),
+        b"refused 11 data/0000/y\n",
     ),
     (
         b"",
@@ -110,10 +108,17 @@ const FILES: [(&[u8], &[u8], &[u8], &[u8], u64, Wanted); 15] = [
         b"abc",
         b"abc",
         99,
-        (11, [0, 0], b"manifest"),
+        b"refused 11 manifest\n",
     ),
-    (b"", b"header.tar.gz", b"abc", b"abc", 99, (9, [3, 2], b"")),
-    (b"", b"version", b"abc", b"abc", 99, (9, [2, 2], b"")),
+    (
+        b"",
+        b"header.tar.gz",
+        b"abc",
+        b"abc",
+        99,
+        b"refused 9 3 2\n",
+    ),
+    (b"", b"version", b"abc", b"abc", 99, b"refused 9 2 2\n"),
     (b"manifest.sig", b"", b"abc", b"abc", 99, ADMITTED),
     (
         b"header/headers/0000/meta-data",
@@ -124,9 +129,9 @@ const FILES: [(&[u8], &[u8], &[u8], &[u8], u64, Wanted); 15] = [
         ADMITTED,
     ),
     (b"data/0000/x", b"data/0000/x", b"abc", b"abc", 99, ADMITTED),
-    (b"", b"", b"abc", b"abc", 0, (100, [0, 0], b"")),
-    (b"", b"", b"abc", b"abc", 11, (100, [0, 0], b"")),
-    (b"", b"", b"abc", b"abd", 12, (100, [0, 0], b"")),
+    (b"", b"", b"abc", b"abc", 0, b"source fault\n"),
+    (b"", b"", b"abc", b"abc", 11, b"source fault\n"),
+    (b"", b"", b"abc", b"abd", 12, b"source fault\n"),
     (b"", b"", b"abc", b"abc", 21, ADMITTED),
 ];
 
@@ -148,38 +153,39 @@ fn files_and_lines(rt: HostRuntime) -> Result<(), Fail> {
 }
 
 /// Of the tree with one file more, which has a line or not.
-const PATHS: [(&[u8], bool, Wanted); 20] = [
-    (b"data/0000/a/b", true, (5, [2, 0], b"")),
-    (b"data/0000/", true, (5, [2, 0], b"")),
-    (b"data/0000/.", true, (5, [2, 0], b"")),
-    (b"data/0000/..", true, (5, [2, 0], b"")),
+const PATHS: [(&[u8], bool, Wanted); 21] = [
+    (b"data/0000/a/b", true, b"refused 5 2\n"),
+    (b"data/0000/", true, b"refused 5 2\n"),
+    (b"data/0000/.", true, b"refused 5 2\n"),
+    (b"data/0000/..", true, b"refused 5 2\n"),
     (b"data/0000/...", true, ADMITTED),
-    (b"data/0001/x", true, (5, [2, 0], b"")),
-    (b"../x", true, (5, [2, 0], b"")),
-    (b"data//0000/x", true, (5, [2, 0], b"")),
-    (b"header/scripts", true, (5, [2, 0], b"")),
-    (b"data/0000/a\nb", false, (5, [2, 0], b"")),
-    (b"data/0000/a\0b", false, (5, [2, 0], b"")),
-    (b"manifest-augment\0", false, (5, [2, 0], b"")),
+    (b"data/0001/x", true, b"refused 20 data/0001/x\n"),
+    (b"data/0008/x", true, b"refused 5 2\n"),
+    (b"../x", true, b"refused 5 2\n"),
+    (b"data//0000/x", true, b"refused 5 2\n"),
+    (b"header/scripts", true, b"refused 5 2\n"),
+    (b"data/0000/a\nb", false, b"refused 5 2\n"),
+    (b"data/0000/a\0b", false, b"refused 5 2\n"),
+    (b"manifest-augment\0", false, b"refused 5 2\n"),
     (
         b"data/0000/aaaaaaaaaaaaaaaaaaaaaaaaaaaaaaaaaaaaaaaaaaaaaaaaaaaaaaaaaaaaaaaaaaaaaaaaaaaaaaaaaaaaaaaaaaaaaaaaaaaaaaaaaaaaaaaaaaaaaaa",
         false,
-        (5, [2, 0], b""),
+        b"refused 5 2\n",
     ),
-    (b"version", false, (6, [2, 0], b"")),
-    (b"data/0000/app.bin", false, (6, [4, 0], b"")),
-    (b"manifest-augment", false, (4, [2, 0], b"")),
-    (b"header-augment.tar", false, (4, [2, 0], b"")),
+    (b"version", false, b"refused 6 2\n"),
+    (b"data/0000/app.bin", false, b"refused 6 4\n"),
+    (b"manifest-augment", false, b"refused 4 2\n"),
+    (b"header-augment.tar", false, b"refused 4 2\n"),
     (b"header/scripts/ArtifactInstall_Enter_05", true, ADMITTED),
     (
         b"header/scripts/ArtifactInstall_Enter_5",
         true,
-        (15, [0, 0], b"header/scripts/ArtifactInstall_Enter_5"),
+        b"refused 15 header/scripts/ArtifactInstall_Enter_5\n",
     ),
     (
         b"header/scripts/Download_Enter_05",
         true,
-        (15, [0, 0], b"header/scripts/Download_Enter_05"),
+        b"refused 15 header/scripts/Download_Enter_05\n",
     ),
 ];
 
@@ -223,7 +229,7 @@ const FIELDS: [(&[u8], &[u8], &[u8], &[u8], Wanted); 10] = [
         HEADER,
         INFO,
         b"qemux86-64",
-        (17, [0, 0], b"device_type"),
+        b"refused 17 device_type\n",
     ),
     (VERSION, ONE_TYPE, INFO, b"beaglebone", ADMITTED),
     (
@@ -231,32 +237,32 @@ const FIELDS: [(&[u8], &[u8], &[u8], &[u8], Wanted); 10] = [
         HEADER,
         WANTING,
         b"beaglebone",
-        (17, [0, 0], b"app.version"),
+        b"refused 17 app.version\n",
     ),
-    (VERSION, HEADER, WANTING, b"x", (17, [0, 0], b"device_type")),
+    (VERSION, HEADER, WANTING, b"x", b"refused 17 device_type\n"),
     (VERSION, IMAGE, IMAGE_INFO, b"beaglebone", ADMITTED),
     (
         b"{\"format\":\"mender\",\"version\":2}",
         HEADER,
         INFO,
         b"beaglebone",
-        (13, [0, 0], b""),
+        b"refused 13\n",
     ),
-    (VERSION, NULL_TYPE, INFO, b"beaglebone", (14, [6, 0], b"")),
-    (VERSION, NO_NAME, INFO, b"beaglebone", (14, [2, 5], b"")),
+    (VERSION, NULL_TYPE, INFO, b"beaglebone", b"refused 14 6\n"),
+    (VERSION, NO_NAME, INFO, b"beaglebone", b"refused 14 2 5\n"),
     (
         VERSION,
         b"{\"payloads\"",
         INFO,
         b"beaglebone",
-        (14, [1, 1], b""),
+        b"refused 14 1 1\n",
     ),
     (
         VERSION,
         HEADER,
         b"{\"type\":\"other\"}",
         b"beaglebone",
-        (14, [7, 0], b""),
+        b"refused 14 7\n",
     ),
 ];
 

@@ -9,7 +9,7 @@ use crate::{HeaderInfo, MetaFault, read_header_info};
 use std::alloc::{AllocError, Global};
 use std::string::String;
 use std::test::Fail;
-use upd_text::Name;
+use upd_text::{KindList, Name};
 
 // The file with these three fields.
 fn header(
@@ -26,16 +26,28 @@ fn header(
 
 const ONE: &str = r#"[{"type":"single-file"}]"#;
 
+const EIGHT: &str =
+    r#"[{"type":"a"},{"type":"b"},{"type":"c"},{"type":"d"},{"type":"e"},{"type":"f"},{"type":"g"},{"type":"h"}]"#;
+
 const NAME: &str = r#"{"artifact_name":"release-2"}"#;
 
 const TYPE: &str = r#"{"device_type":["beaglebone"]}"#;
 
-const FAULTS: [(&str, &str, &str, Option<MetaFault>); 40] = [
+const FAULTS: [(&str, &str, &str, Option<MetaFault>); 44] = [
     (ONE, NAME, TYPE, None),
     ("null", NAME, TYPE, Some(Missing(Payloads))),
     ("{}", NAME, TYPE, Some(WrongKind(Payloads))),
     ("[]", NAME, TYPE, Some(PayloadCount(0))),
-    ("[null,1]", "1", "2", Some(PayloadCount(2))),
+    ("[null,1]", "1", "2", Some(WrongKind(PayloadType))),
+    (EIGHT, NAME, TYPE, None),
+    ("[0,1,2,3,4,5,6,7,8]", "1", "2", Some(PayloadCount(9))),
+    (r#"[{"type":"a"},{"type":null}]"#, "1", TYPE, Some(NullType)),
+    (
+        r#"[{"type":"a"},{"type":".."}]"#,
+        NAME,
+        TYPE,
+        Some(BadText(PayloadType)),
+    ),
     ("[null]", NAME, TYPE, Some(WrongKind(PayloadType))),
     (r#"["x"]"#, NAME, TYPE, Some(WrongKind(PayloadType))),
     ("[{}]", NAME, TYPE, Some(Missing(PayloadType))),
@@ -256,9 +268,22 @@ fn is_group(found: &Option<Name>, wanted: Option<&str>) -> bool {
     }
 }
 
+// Whether the payload types are these, in this order.
+fn are_kinds(found: &KindList, kinds: &[&str]) -> bool {
+    if found.len() as usize != kinds.len() {
+        return false;
+    }
+    for (kind, text) in found.as_slice().iter().zip(kinds) {
+        if kind.bytes() != text.as_bytes() {
+            return false;
+        }
+    }
+    true
+}
+
 fn is_read(alloc: Global, text: &str, row: Row) -> Result<bool, MetaFault> {
     let found: HeaderInfo = read_header_info(alloc, text.as_bytes())?;
-    let kind = found.kind.bytes() == b"single-file".as_slice();
+    let kind = are_kinds(&found.kinds, &["single-file"]);
     let name = found.name.bytes() == b"release-2".as_slice();
     let group = is_group(&found.group, row.group);
     Ok(kind & name & group & are_wants(&found.wants, row.wants))
@@ -270,5 +295,13 @@ fn reads_header_info(rt: HostRuntime) -> Result<(), Fail> {
         let text = header(rt.alloc(), ONE, row.provides, row.depends)?;
         assert!(rt; is_read(rt.alloc(), text.as_str(), *row)?, "at {text}");
     }
+    Ok(())
+}
+
+#[test]
+fn reads_the_types_in_order(rt: HostRuntime) -> Result<(), Fail> {
+    let text = header(rt.alloc(), EIGHT, NAME, TYPE)?;
+    let found = read_header_info(rt.alloc(), text.as_str().as_bytes())?;
+    assert!(rt; are_kinds(&found.kinds, &["a", "b", "c", "d", "e", "f", "g", "h"]));
     Ok(())
 }

@@ -1,13 +1,13 @@
 //! Trees as real folders.
 
-use super::data_folder;
-use crate::fault::HostFault;
+use super::TYPE;
 use crate::obey;
+use host_edge::HostFault;
 use std::alloc::Global;
 use std::fs::{self, File};
 use std::io;
 use std::process::{Command, Processes, Stdio};
-use std::rt::Files;
+use std::rt::{Clock, Files};
 use std::test::Fail;
 
 /// The manifest of the tree below.
@@ -38,7 +38,7 @@ fn tree_here<R: Files>(rt: &R) -> io::Result<()> {
 }
 
 /// The exit status of `check` of a tree, or why the client can't start.
-fn checked<R: Files<File = File> + Processes + Print>(
+fn checked<R: Files<File = File> + Processes + Clock + Print>(
     rt: &R,
     alloc: Global,
     tree: &str,
@@ -67,7 +67,8 @@ fn trees_of_real_files_are_weighed(rt: HostRuntime) -> Result<(), Fail> {
     fs::create_dir(&rt, "weighed")?;
     std::env::set_current_dir(&rt, "weighed")?;
     tree_here(&rt)?;
-    data_folder(&rt, rt.alloc(), "data")?;
+    fs::create_dir(&rt, "data")?;
+    fs::write(&rt, "data/device_type", TYPE)?;
     let alloc = rt.alloc();
     assert_eq!(rt; checked(&rt, alloc, "tree")?, Ok(0));
     assert_eq!(rt; checked(&rt, alloc, "nowhere")?, Err(HostFault::NoTree));
@@ -123,5 +124,7 @@ fn trees_of_real_files_are_weighed(rt: HostRuntime) -> Result<(), Fail> {
         shell(&rt, alloc, back)?;
     }
     assert_eq!(rt; checked(&rt, alloc, "linked")?, Ok(0));
+    std::env::set_current_dir(&rt, "..")?;
+    rt.remove_dir_all(alloc, "weighed")?;
     Ok(())
 }

@@ -9,7 +9,7 @@ use std::alloc::Global;
 use std::test::Fail;
 use upd_text::CallList;
 
-type File = (&'static str, &'static [u8]);
+pub(super) type File = (&'static str, &'static [u8]);
 
 const HEADER: &[u8] = b"{\"payloads\":[{\"type\":\"single-file\"}],\
 \"artifact_provides\":{\"artifact_name\":\"release-2\"},\
@@ -26,7 +26,7 @@ const FILES: [File; 4] = [
     ("data/0000/app.bin", b"abc"),
 ];
 
-fn add_file(files: &mut FileList, path: &str, bytes: &[u8]) -> Result<(), Fail> {
+pub(super) fn add_file(files: &mut FileList, path: &str, bytes: &[u8]) -> Result<(), Fail> {
     if bytes.len() >= 1_000_000 {
         return Err("too long".into());
     }
@@ -35,7 +35,7 @@ fn add_file(files: &mut FileList, path: &str, bytes: &[u8]) -> Result<(), Fail> 
 }
 
 /// Adds a file and its line.
-fn add_listed(
+pub(super) fn add_listed(
     files: &mut FileList,
     manifest: &mut Vec<u8>,
     path: &str,
@@ -67,12 +67,12 @@ fn changed(changes: &[File], path: &str) -> Option<&'static [u8]> {
 
 /// A tree with some files changed or added, and these lines at the manifest's end.
 #[derive(Clone, Copy)]
-struct Tree {
-    changes: &'static [File],
-    lines: &'static str,
+pub(super) struct Tree {
+    pub changes: &'static [File],
+    pub lines: &'static str,
 }
 
-fn files_of(alloc: Global, tree: Tree) -> Result<FileList, Fail> {
+pub(super) fn files_of(alloc: Global, tree: Tree) -> Result<FileList, Fail> {
     let mut files = FileList::new(alloc);
     let mut manifest = Vec::new(alloc);
     for (path, bytes) in FILES {
@@ -92,7 +92,7 @@ fn files_of(alloc: Global, tree: Tree) -> Result<FileList, Fail> {
 }
 
 /// The status and the text of a `check` of these files over an area, on a device of this type.
-fn checked(
+pub(super) fn checked(
     alloc: Global,
     files: FileList,
     failing: &[u64],
@@ -226,7 +226,7 @@ fn metadata_is_refused_by_its_first_fault(rt: HostRuntime) -> Result<(), Fail> {
         ),
         (
             &[(HEADER_PATH, b"{\"payloads\":[{},{}]}")],
-            b"refused 14 5 2\n",
+            b"refused 14 2 3\n",
         ),
         (
             &[(

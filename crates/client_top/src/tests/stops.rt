@@ -1,6 +1,6 @@
 //! A cleanup that is stopped by a loss or a fault at each of its calls.
 
-use super::{RECORD, SLOT_0, device_of, no_tree, site_of, words_of};
+use super::{RECORD, SLOT_0, device_of, no_tree, site_of, standing, words_of};
 use crate::run;
 use device_mem::{AreaBytes, LossAt, LossList, MemDevice, Tear};
 use device_model::Event;
@@ -31,21 +31,13 @@ fn starts_in(device: &MemDevice) -> u32 {
     starts
 }
 
-fn picked(device: &MemDevice) -> Option<(u8, u8)> {
-    let area = device.area();
-    let slot = if *area.get(0)? % 2 == 0 {
-        4_096
-    } else {
-        135_168
-    };
-    Some((*area.get(slot + 4)?, *area.get(slot + 8)?))
-}
-
 fn left_by(alloc: Global, losses: LossList, faults: CallList) -> Result<Left, Fail> {
     let mut area = AreaBytes::zeros(alloc)?;
+    // of version 2, so that the mount writes nothing
     area.set(SLOT_0, &RECORD);
+    area.set(SLOT_0 + 3, b"2");
     area.set(SLOT_0 + 4, &[11]);
-    area.set(SLOT_0 + 8, &[4]);
+    area.set(SLOT_0 + 8, &[4, 1]);
     let words = words_of(alloc, "resume")?;
     let mut out = MemSink::new(alloc, 100, CallList::new(alloc))?;
     let mut device = device_of(alloc, area, losses, faults)?;
@@ -53,7 +45,7 @@ fn left_by(alloc: Global, losses: LossList, faults: CallList) -> Result<Left, Fa
     let mut source = no_tree(alloc);
     let words = words.as_slice();
     let status = run(alloc, words, &site, &mut source, &mut out, &mut device);
-    let (state, n) = picked(&device).ok_or("the area is whole")?;
+    let (state, n) = standing(&device).ok_or("the area is whole")?;
     Ok(Left {
         status: status.number(),
         text: out.written().len(),
@@ -63,34 +55,38 @@ fn left_by(alloc: Global, losses: LossList, faults: CallList) -> Result<Left, Fa
     })
 }
 
-/// The calls are: 0 to 2 the mount, 3 to 6 the put of Cleanup with `n` 5 (slot, sync, selector, sync), 7 the module, 8 to 11
+/// The calls are: 0 to 4 the mount, 5 to 8 the put of Cleanup with `n` 5 (cell, sync, selector, sync), 9 the module, 10 to 13
 /// the put of Idle. What stands for each tear of what isn't synced: the old bytes, the new ones, 0xff and 0x10. A selector of
-/// 0xff picks slot 1, one of 0x10 slot 0.
+/// 0xff picks cell 1, one of 0x10 cell 0.
 #[test]
 fn a_loss_leaves_the_last_position_or_the_stopped_one(rt: HostRuntime) -> Result<(), Fail> {
     let (old, entered, ended) = ((11, 4), (11, 5), (0, 5));
     // the call, before it or after it, the children that were started, and what stands by the tear
     let rows = [
         (0, true, 0, [old; 4]),
-        (2, false, 0, [old; 4]),
-        (3, true, 0, [old; 4]),
-        (3, false, 0, [old; 4]),
-        (4, true, 0, [old; 4]),
+        (0, false, 0, [old; 4]),
+        (1, true, 0, [old; 4]),
+        (1, false, 0, [old; 4]),
+        (2, true, 0, [old; 4]),
         (4, false, 0, [old; 4]),
         (5, true, 0, [old; 4]),
-        (5, false, 0, [old, entered, entered, old]),
-        (6, true, 0, [old, entered, entered, old]),
-        (6, false, 0, [entered; 4]),
-        (7, true, 0, [entered; 4]),
-        (7, false, 1, [entered; 4]),
-        (8, true, 1, [entered; 4]),
-        (8, false, 1, [entered; 4]),
-        (9, true, 1, [entered; 4]),
+        (5, false, 0, [old; 4]),
+        (6, true, 0, [old; 4]),
+        (6, false, 0, [old; 4]),
+        (7, true, 0, [old; 4]),
+        (7, false, 0, [old, entered, entered, old]),
+        (8, true, 0, [old, entered, entered, old]),
+        (8, false, 0, [entered; 4]),
+        (9, true, 0, [entered; 4]),
         (9, false, 1, [entered; 4]),
         (10, true, 1, [entered; 4]),
-        (10, false, 1, [entered, ended, entered, ended]),
-        (11, true, 1, [entered, ended, entered, ended]),
-        (11, false, 1, [ended; 4]),
+        (10, false, 1, [entered; 4]),
+        (11, true, 1, [entered; 4]),
+        (11, false, 1, [entered; 4]),
+        (12, true, 1, [entered; 4]),
+        (12, false, 1, [entered, ended, entered, ended]),
+        (13, true, 1, [entered, ended, entered, ended]),
+        (13, false, 1, [ended; 4]),
     ];
     for (call, before, starts, stands) in rows {
         let tears = [Tear::Old, Tear::New, Tear::Byte(0xff), Tear::Byte(0x10)];
@@ -122,13 +118,15 @@ fn a_fault_leaves_the_last_position_or_the_stopped_one(rt: HostRuntime) -> Resul
         (3, 5, 0, old),
         (4, 5, 0, old),
         (5, 5, 0, old),
-        (6, 5, 0, entered),
-        (7, 0, 1, ended),
-        (8, 5, 1, entered),
-        (9, 5, 1, entered),
+        (6, 5, 0, old),
+        (7, 5, 0, old),
+        (8, 5, 0, entered),
+        (9, 0, 1, ended),
         (10, 5, 1, entered),
-        (11, 5, 1, ended),
-        (12, 0, 1, ended),
+        (11, 5, 1, entered),
+        (12, 5, 1, entered),
+        (13, 5, 1, ended),
+        (14, 0, 1, ended),
     ];
     for (call, status, starts, (state, n)) in rows {
         let mut faults = CallList::new(rt.alloc());

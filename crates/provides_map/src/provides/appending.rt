@@ -1,22 +1,13 @@
-//! Building a map in order, with its memory taken once.
+//! Building a map in order.
 
-ghost use Rattle.std.specs.Prelude.{◌≡◌, ◌++◌, ◌∷◌, [], IfOk, OnOk, OnErr, IsTrue};
+ghost use Rattle.std.specs.Prelude.{◌≡◌, ◌++◌, ◌∷◌, [], OnOk, OnErr, IsTrue};
 ghost use Rattle.upd_text.specs.Order.{is_below};
 ghost use Rattle.provides_map.specs.Last.{last_key};
 
 use super::Provides;
-use std::alloc::Global;
 use upd_text::{Name, NoMemory, Value};
 
 impl Provides {
-    /// The empty map, with room for so many pairs.
-    pub fn with_capacity(alloc: Global, count: u32) -> Result<Provides, NoMemory>
-        ensures { IfOk result (λ map. map ≡ []) }
-    {
-        let pairs = Vec::with_capacity(alloc, count as usize)?;
-        Ok(Provides { pairs })
-    }
-
     /// Whether the key is above all keys of the map.
     pub fn is_last(&self, key: &Name) -> bool
         ensures { result ≡ is_below (last_key self.now) key.now }

@@ -1,6 +1,6 @@
 //! Reading the maps, the payload type and the scripts.
 
-ghost use Rattle.std.specs.Prelude.{◌≡◌, ◌≤◌, ◌&&◌, [], IfOk, IsTrue, nat_le, length};
+ghost use Rattle.std.specs.Prelude.{◌≡◌, ◌≤◌, ◌&&◌, [], IfOk, IsTrue, nat_le};
 
 use super::Reader;
 use crate::fault::{DecodeFault, Wrong};
@@ -8,23 +8,16 @@ use crate::text::{is_kind, is_named, name_from, script_from, value_from};
 use provides_map::Provides;
 use script_names::{ScriptList, ScriptName};
 use std::alloc::Global;
-use upd_text::{Name, Value};
+use upd_text::{KindList, Name, Value};
 
 impl<'a> Reader<'a> {
-    ghost use Rattle.record_codec.specs.Reading.{Reads, Builds, number_at, text_at, pair_at, items_at, map_at, named_map_at, script_at, scripts_at};
+    ghost use Rattle.record_codec.specs.Reading.{Reads, Builds, number_at, text_at, pair_at, items_at, map_at, named_map_at, kinds_at, script_at, scripts_at};
     ghost use Rattle.std.specs.Int.{w8, w16};
     ghost use Rattle.upd_text.specs.Order.{is_below, itself};
     ghost use Rattle.provides_map.specs.Last.{last_key, key_of};
     ghost use Rattle.script_names.specs.Scripts.{last_script};
     ghost use Rattle.record_codec.specs.Keys.{is_name, is_value};
     ghost use Rattle.record_codec.specs.Spelling.{is_kind};
-
-    /// How many bytes are left.
-    fn left(&self) -> u32
-        ensures { result ≡ length self.now.bytes }
-    {
-        self.rest.len() as u32
-    }
 
     #[tactic(auto, unfolding(crate::specs::Reading::text_at))]
     fn key(&mut self, pairs: &Provides) -> Result<Name, Wrong>
@@ -71,13 +64,12 @@ impl<'a> Reader<'a> {
         Ok((key, value))
     }
 
-    /// So many pairs, each key above the one before. Memory is taken once, and never for more pairs
-    /// than the bytes that are left can hold: a pair has at least five.
+    /// So many pairs, each key above the one before. Memory is taken for pairs that were read, and
+    /// never for a count.
     fn pairs(&mut self, alloc: Global, count: u16) -> Result<Provides, DecodeFault>
         ensures { Builds result (items_at key_of pair_at count [] self.old) self.new }
     {
-        let room = u32::from(count).min(self.left() / 5);
-        let mut pairs = Provides::with_capacity(alloc, room)?;
+        let mut pairs = Provides::new(alloc);
         for _ in 0..count {
             let (key, value) = self.pair(&pairs)?;
             pairs.push_last(key, value)?;
@@ -106,7 +98,7 @@ impl<'a> Reader<'a> {
     }
 
     #[tactic(auto, unfolding(crate::specs::Reading::text_at, crate::specs::Spelling::is_kind))]
-    pub(crate) fn kind(&mut self) -> Result<Name, Wrong>
+    fn kind(&mut self) -> Result<Name, Wrong>
         ensures { Reads result (text_at w8 is_kind self.old) self.new }
     {
         let at = self.at;
@@ -120,6 +112,18 @@ impl<'a> Reader<'a> {
             Some(name) if is_kind(&name) => Ok(name),
             _ => Err(Wrong { at }),
         }
+    }
+
+    /// So many payload types.
+    pub(crate) fn kinds(&mut self, alloc: Global, count: u8) -> Result<KindList, DecodeFault>
+        ensures { Builds result (kinds_at count self.old) self.new }
+    {
+        let mut kinds = KindList::new(alloc);
+        for _ in 0..count {
+            let kind = self.kind()?;
+            kinds.push(kind)?;
+        }
+        Ok(kinds)
     }
 
     #[tactic(auto, unfolding(crate::specs::Reading::text_at, crate::specs::Reading::script_at))]

@@ -6,12 +6,12 @@ use std::alloc::Global;
 use std::test::Fail;
 use upd_text::{Name, Value};
 
-/// A record whose map `before` has 128 pairs, of which all but the last have values of 1,024 bytes,
-/// and the last one has so many.
-fn long_record(alloc: Global, last: u8) -> Result<Vec<u8>, Fail> {
+/// A record with this front whose map `before` has 128 pairs, of which all but the last have values of
+/// 1,024 bytes, and the last one has so many.
+fn long_record(alloc: Global, front: &[u8; 12], last: u8) -> Result<Vec<u8>, Fail> {
     let mut bytes = Vec::new(alloc);
     let size = u32::from(last) + 130_857;
-    bytes.extend_from_slice(b"MUP1\x00\x02\x00\x00\x05\x00\x00\x00")?;
+    bytes.extend_from_slice(front)?;
     bytes.extend_from_slice(&size.to_be_bytes())?;
     bytes.extend_from_slice(&[0, 128])?;
     for i in 0..128 {
@@ -26,31 +26,42 @@ fn long_record(alloc: Global, last: u8) -> Result<Vec<u8>, Fail> {
     Ok(bytes)
 }
 
-fn is_written(alloc: Global, entry: &Entry, bytes: &[u8]) -> Result<bool, Fail>
-    requires { IsFound bytes.now entry.now }
+/// Whether these bytes are written for the entry that was read of as many.
+fn is_written(alloc: Global, entry: &Entry, read: &[u8], wanted: &[u8]) -> Result<bool, Fail>
+    requires { IsFound read.now entry.now }
 {
-    let mut into = bytes.to_vec(alloc)?;
+    let mut into = read.to_vec(alloc)?;
     for byte in into.iter_mut() {
         *byte = 7;
     }
     let end = encode_into(entry, &mut into) as usize;
-    Ok(end == bytes.len() && into.as_slice() == bytes)
+    Ok(end == wanted.len() && into.as_slice() == wanted)
 }
+
+const FIRST: &[u8; 12] = b"MUP1\x00\x02\x00\x00\x05\x00\x00\x00";
+
+const SECOND: &[u8; 12] = b"MUP2\x00\x02\x00\x00\x05\x01\x00\x00";
 
 #[test]
 fn longest_record(rt: HostRuntime) -> Result<(), Fail> {
-    let bytes = long_record(rt.alloc(), 215)?;
+    // both versions have it, and it is written as the second one
+    let bytes = long_record(rt.alloc(), FIRST, 215)?;
+    let second = long_record(rt.alloc(), SECOND, 215)?;
     assert_eq!(rt; bytes.len(), 131_072);
     let entry = entry_of(rt.alloc(), &bytes).ok_or("the record is right")?;
     assert_eq!(rt; encoded_length(&entry), 131_072);
-    assert!(rt; is_written(rt.alloc(), &entry, &bytes)?);
+    assert!(rt; is_written(rt.alloc(), &entry, &bytes, &second)?);
+    let again = entry_of(rt.alloc(), &second).ok_or("the record is right")?;
+    assert!(rt; is_written(rt.alloc(), &again, &second, &second)?);
     let mut longer = entry;
     let key = Name::read(b"7?").ok().ok_or("a name")?;
     let value = Value::read(&[b'v'; 216]).ok().ok_or("a value")?;
     longer.before.insert(key, value).ok().ok_or("no memory")?;
     assert_eq!(rt; encoded_length(&longer), 131_073);
-    let bytes = long_record(rt.alloc(), 216)?;
-    assert_eq!(rt; fault_of(rt.alloc(), &bytes), Some(12));
+    for front in [FIRST, SECOND] {
+        let bytes = long_record(rt.alloc(), front, 216)?;
+        assert_eq!(rt; fault_of(rt.alloc(), &bytes), Some(12));
+    }
     Ok(())
 }
 

@@ -25,7 +25,9 @@ fn is_written_so(entry: &Entry, bytes: &[u8]) -> bool
         return false;
     }
     encode_into(entry, &mut into) as usize == size
-        && into.starts_with(bytes)
+        && into.starts_with(b"MUP2")
+        && into[4..9] == bytes[4..9]
+        && into[12..size] == bytes[12..]
         && into.iter().skip(size).all(|b| *b == 7)
 }
 
@@ -111,7 +113,7 @@ fn whole_records(rt: HostRuntime) {
     assert_eq!(rt; entry.position, position);
     assert_eq!(rt; entry.before.len(), 0);
     assert_eq!(rt; entry.new.len(), 2);
-    assert!(rt; entry.kind.bytes() == b"single-file".as_slice());
+    assert!(rt; entry.kinds.at(0).bytes() == b"single-file".as_slice());
     assert!(rt; is_written_so(&entry, &RECORD));
 }
 
@@ -136,6 +138,8 @@ fn patched(rt: HostRuntime) {
         n: 28,
     };
     let mut wanted = RECORD;
+    wanted[3] = b'2';
+    wanted[9] = 1;
     wanted[4] = 10;
     wanted[5] = 4;
     wanted[6] = 1;

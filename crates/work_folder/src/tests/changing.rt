@@ -41,6 +41,8 @@ impl Source for Changing {
 
     ghost content = { λ _. Untold 5 };
 
+    ghost given = { λ _. None };
+
     ghost faults = { λ s. s.faults };
 
     ghost plan = { λ _. None };

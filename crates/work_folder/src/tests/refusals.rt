@@ -1,6 +1,6 @@
 //! A source, a device and a disk that fail at each call in turn.
 
-use super::prepared;
+use super::{ONE, prepared};
 use crate::PrepareFault;
 use device_mem::{LossAt, LossList, MemDevice, Tear};
 use device_model::Event;
@@ -28,15 +28,15 @@ fn answer_at(alloc: Global, failing: Failing, call: u64) -> Result<Answered, Fai
     let none = CallList::new(alloc);
     let mut losses = LossList::new(alloc);
     match failing {
-        Failing::Source => prepared(alloc, one(alloc, call)?, losses, none),
-        Failing::Disk => prepared(alloc, none, losses, one(alloc, call)?),
+        Failing::Source => prepared(alloc, ONE, one(alloc, call)?, losses, none),
+        Failing::Disk => prepared(alloc, ONE, none, losses, one(alloc, call)?),
         Failing::Power => {
             losses.push(LossAt {
                 call,
                 before: call % 2 == 0,
                 tear: Tear::Old,
             })?;
-            prepared(alloc, none, losses, CallList::new(alloc))
+            prepared(alloc, ONE, none, losses, CallList::new(alloc))
         }
     }
 }

@@ -1,4 +1,4 @@
-use Rattle.std.proofs.Common.{refl, sym, ap, subst}
+use Rattle.std.proofs.Common.{refl, subst}
 use Rattle.std.specs.Prelude.{Some}
 use Rattle.record_codec.specs.declared.entry.Db.{Db}
 use Rattle.record_codec.specs.declared.entry.Db.TheVariants.{Empty}
@@ -19,7 +19,7 @@ returns-in-Ok-clause-acted g c =
     record {
       from = c.in-Ok.store.db;
       shows = weighed-tells c.weigh.result weighs.answer;
-      did = did-weigh asked c.in-Ok.store (g.D.Device.means c.args.device.now) (g.D.Device.means c.mount.new.device) c.in-Ok.ensures.waited c.in-Ok.ensures.ends faults after refl c.weigh.result weighs;
+      did = did-weigh asked c.in-Ok.store (g.D.Device.means c.args.device.now) (g.D.Device.means c.mount.new.device) c.in-Ok.ensures.wrote c.in-Ok.ensures.adds c.in-Ok.ensures.ends faults after refl c.weigh.result weighs;
     }
 
 pub returns-in-Err-clause-acted : goal.returns-in-Err-clause-acted
@@ -28,5 +28,5 @@ returns-in-Err-clause-acted g c =
     rw c.not_mounted.ensures (record {
       from = Empty;
       shows = not-mounted-tells c.in-Err.fault;
-      did = did-not-mount asked tt (g.S.Source.faults c.args.source.now) c.in-Err.fault (g.D.Device.means c.args.device.now) (g.D.Device.means c.mount.new.device) c.in-Err.ensures.waited c.in-Err.ensures.ends;
+      did = did-not-mount asked tt (g.S.Source.faults c.args.source.now) c.in-Err.fault (g.D.Device.means c.args.device.now) (g.D.Device.means c.mount.new.device) c.in-Err.ensures.wrote c.in-Err.ensures.adds c.in-Err.ensures.ends;
     })

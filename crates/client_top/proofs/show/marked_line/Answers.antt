@@ -1,4 +1,4 @@
-use Rattle.std.proofs.Common.{◌≡◌, ◌∙◌, sym}
+use Rattle.std.proofs.Common.{◌∙◌, sym}
 use Rattle.client_top.proofs.Texts.{marked-line, plain-line}
 use Rattle.client_top.proofs.show.marked_line.Goals as goal
 

@@ -29,18 +29,18 @@ returns-in-Err-clause-ran g c =
     let mid = g.D.Device.means c.try_script.new.device in
     let new = g.D.Device.means c.pause.new.self in
     Stops-pause (block-again c.args.name.now c.tries.left _ (omega arith) c.tries.invariant.so_far c.in-Exit.ensures.ran (grind (arith, nat_tests)))
-    (pause-off 60 mid new c.in-Exit.ensures.ran.stretch.ends.on c.in-Err.ensures.ends c.in-Err.ensures.leaves)
+    (pause-off 60 mid new c.in-Exit.ensures.ran.stretch.passed.ends.on c.in-Err.ensures.ends c.in-Err.ensures.leaves)
 
 pub tries-preserved : goal.tries-preserved
 tries-preserved g c =
     let mid = g.D.Device.means c.try_script.new.device in
     let new = g.D.Device.means c.pause.new.self in
-    let on : mid.on ≡ true = c.in-Exit.ensures.ran.stretch.ends.on in
+    let on : mid.on ≡ true = c.in-Exit.ensures.ran.stretch.passed.ends.on in
     let paused = pause-done 60 mid new on c.in-Ok.ensures.ends.1 c.in-Ok.ensures.leaves in
     let left : new.room ≡ mid.room - 1 = ap (λ (s : State). s.room) c.in-Ok.ensures.ends.1 in
     record {
       few = omega arith;
-      on = paused.stretch.ends.on;
+      on = paused.stretch.passed.ends.on;
       plan = c.in-Ok.ensures.plan ∙ c.in-Exit.ensures.plan ∙ c.tries.invariant.plan;
       so_far = Reaches-pause (block-again c.args.name.now c.tries.left _ (omega arith) c.tries.invariant.so_far c.in-Exit.ensures.ran (grind (arith, nat_tests))) paused;
       room = omega (arith, c.in-Exit.ensures.room, c.tries.invariant.room);

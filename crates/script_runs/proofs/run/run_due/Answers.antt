@@ -19,7 +19,7 @@ loop-script-preserved g c =
     let goes : left c.loop-script.script-iterator ≡ c.name.result.now ∷ left c.next.new.self = c.in-Some.ensures.steps ∙ ap (λ (n : List ℕ). n ∷ left c.next.new.self) (sym c.name.ensures) in
     let shorter = ap length goes in
     record {
-      on = c.in-Done.ensures.ran.stretch.ends.on;
+      on = c.in-Done.ensures.ran.stretch.passed.ends.on;
       plan = c.in-Done.ensures.plan ∙ c.loop-script.invariant.plan;
       so_far = run-more (left c.loop-script.script-iterator) c.args.mode c.name.result.now (left c.next.new.self) goes c.loop-script.invariant.so_far c.in-Done.ensures.ran;
       room = omega (arith, shorter, c.in-Done.ensures.room, c.loop-script.invariant.room);

@@ -1,12 +1,7 @@
-use Rattle.device_model.proofs.Writes.{write-changes}
 use Rattle.slot_store.proofs.writing.write_synced.Goals as goal
 
 pub returns-in-Err-clause-leaves : goal.returns-in-Err-clause-leaves
-returns-in-Err-clause-leaves g c =
-    write-changes 266240 c.args.at c.args.bytes.now c.requires.range (g.D.Device.means c.args.device.now) c.disk_write.result (g.D.Device.means c.disk_write.new.self)
-    (g.met.D.Device.whole c.args.device.now) c.requires.on c.disk_write.ensures.ends
+returns-in-Err-clause-leaves g c = c.write_bytes.ensures.leaves
 
 pub returns-clause-leaves : goal.returns-clause-leaves
-returns-clause-leaves g c = λ area held.
-    write-changes 266240 c.args.at c.args.bytes.now c.requires.range (g.D.Device.means c.args.device.now) c.disk_write.result (g.D.Device.means c.disk_write.new.self)
-    (g.met.D.Device.whole c.args.device.now) c.requires.on c.disk_write.ensures.ends area (c.disk_sync.ensures.leaves.adds area held)
+returns-clause-leaves g c = λ area held. c.write_bytes.ensures.leaves area (c.disk_sync.ensures.leaves.adds area held)

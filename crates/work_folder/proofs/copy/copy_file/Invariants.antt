@@ -1,6 +1,7 @@
 use Rattle.std.proofs.Common.{◌≡◌, ◌-◌, ◌≤◌, ◌<◌, ◌^◌, length}
 use Rattle.device_model.specs.How.{Through}
-use Rattle.io_model.specs.Source.{IsLength}
+use Rattle.std.specs.Prelude.{option_map}
+use Rattle.io_model.specs.Source.{IsLength, gave, HasNumber}
 use Rattle.work_folder.specs.Prepare.{IsReady, Touches}
 use Rattle.work_folder.proofs.Copying.{SoFar}
 use Rattle.work_folder.proofs.copy.copy_file.Given as goal
@@ -11,6 +12,8 @@ invariant-pieces g l =
     record {
       so_far : SoFar l.part l.path (g.S.Source.content l.fn.source) l.i l.at (means l.fn.device) (means l.device) l.summing;
       size : IsLength (g.S.Source.content l.fn.source) l.i l.size;
+      given : g.S.Source.given l.source ≡ option_map (gave l.i l.at) (g.S.Source.given l.fn.source);
+      numbered : HasNumber l.i (g.S.Source.given l.fn.source);
       within : l.at ≤ l.size;
       short : l.size < 2 ^ 60;
       buffer : length l.buffer ≡ length l.fn.buffer;

@@ -4,7 +4,7 @@ use Rattle.std.specs.List.{zip}
 use Rattle.std.specs.Str.{bytes_eq}
 use Rattle.std.proofs.lemmas.List.{drop_all}
 use Rattle.std.proofs.lemmas.Slice.Zip.{length-zip}
-use Rattle.work_folder.specs.Rows.{Listed}
+use Rattle.admit.specs.Differing.{Listed}
 use Rattle.work_folder.proofs.Lines.{find_here, find_later, pair_at, pair_within}
 use Rattle.work_folder.proofs.header.find_line.Goals as goal
 

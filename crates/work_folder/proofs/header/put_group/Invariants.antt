@@ -1,8 +1,8 @@
 use Rattle.std.proofs.Common.{◌≡◌, length, take}
 use Rattle.std.specs.List.{filter_map, zip}
 use Rattle.device_model.specs.How.{Through}
-use Rattle.work_folder.specs.Rows.{row_in}
-use Rattle.work_folder.specs.Prepare.{IsReady, Touches}
+use Rattle.work_folder.specs.Rows.{row_in, group_lines}
+use Rattle.work_folder.specs.Prepare.{IsReady, Touches, CopiesAll}
 use Rattle.work_folder.specs.Adding.{Adds}
 use Rattle.work_folder.proofs.header.put_group.Given as goal
 
@@ -11,6 +11,7 @@ invariant-loop-i g l =
     let means = g.D.Device.means in
     record {
       so_far : Adds (g.S.Source.content l.fn.source) (filter_map (row_in l.group) (take l.i (zip l.lines l.numbers))) (means l.fn.device) (means l.device);
+      copied : CopiesAll (g.S.Source.content l.fn.source) (group_lines l.group (take l.i (zip l.lines l.numbers))) (g.S.Source.given l.fn.source) (g.S.Source.given l.source);
       touches : Touches Through (means l.fn.device) (means l.device);
       ready : IsReady (means l.device);
       buffer : length l.buffer ≡ length l.fn.buffer;

@@ -5,9 +5,10 @@ use Rattle.std.specs.Str.{bytes_eq}
 use Rattle.std.proofs.lemmas.List.Elements.{All-contains}
 use Rattle.io_model.specs.Source.{count_of}
 use Rattle.device_model.specs.declared.calls.Part.TheVariants.{Tree}
-use Rattle.work_folder.specs.Rows.{Listed, copied_or_empty}
+use Rattle.admit.specs.Differing.{Listed}
+use Rattle.work_folder.specs.Rows.{copied_or_empty}
 use Rattle.work_folder.specs.Adding.{Adds}
-use Rattle.work_folder.proofs.Lines.{find_among, of_numbers, differs_among}
+use Rattle.work_folder.proofs.Lines.{find_among, of_numbers}
 use Rattle.work_folder.proofs.Steps.{adds_value}
 use Rattle.work_folder.proofs.header.put_header.Goals as goal
 
@@ -18,17 +19,11 @@ copy_line-requires-clause-file g c =
     let among : Contains listed (c.in-Some.line.now, c.in-Some.n) = find_among (λ (r : Listed). bytes_eq r.0.path c.args.from.now) listed (c.in-Some.line.now, c.in-Some.n) c.in-Some.ensures.found in
     All-contains (λ (r : Listed). r.1 < count) listed (c.in-Some.line.now, c.in-Some.n) (of_numbers (λ n. n < count) c.args.lines.now c.args.numbers.now c.requires.files) among
 
-pub returns-in-Err-clause-differs : goal.returns-in-Err-clause-differs
-returns-in-Err-clause-differs g c =
-    let listed = zip c.args.lines.now c.args.numbers.now in
-    let among : Contains listed (c.in-Some.line.now, c.in-Some.n) = find_among (λ (r : Listed). bytes_eq r.0.path c.args.from.now) listed (c.in-Some.line.now, c.in-Some.n) c.in-Some.ensures.found in
-    differs_among c.in-Err.fault (g.S.Source.content c.args.source.now) listed (c.in-Some.line.now, c.in-Some.n) among c.in-Err.ensures.differs
-
-pub returns-in_ok-append-in-None-clause-done : goal.returns-in_ok-append-in-None-clause-done
-returns-in_ok-append-in-None-clause-done g c =
+pub returns-in-Ok-append-clause-done : goal.returns-in-Ok-append-clause-done
+returns-in-Ok-append-clause-done g c =
     let means = g.D.Device.means in
     let content = g.S.Source.content c.args.source.now in
     let path = c.args.path.now in
-    let added = subst (λ p. Adds content (copied_or_empty p None ∷ []) (means c.args.device.now) (means c.append.new.device)) c.name-path.ensures
-    (adds_value content (Tree 0) c.name-path.result [] (means c.args.device.now) (means c.append.new.device) c.in_ok-append-in-None.ensures.done) in
-    subst (λ (o : Option Listed). Adds content (copied_or_empty path o ∷ []) (means c.args.device.now) (means c.append.new.device)) (sym c.in-None.ensures.found) added
+    let added = subst (λ p. Adds content (copied_or_empty c.args.k p None ∷ []) (means c.args.device.now) (means c.append.new.device)) c.name-path.ensures
+    (adds_value content (Tree c.args.k) c.name-path.result [] (means c.args.device.now) (means c.append.new.device) c.in-Ok-append.ensures.done) in
+    subst (λ (o : Option Listed). Adds content (copied_or_empty c.args.k path o ∷ []) (means c.args.device.now) (means c.append.new.device)) (sym c.in-None.ensures.found) added

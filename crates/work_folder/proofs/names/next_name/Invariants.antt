@@ -5,4 +5,4 @@ use Rattle.work_folder.specs.Adding.{IsLast, IsNext}
 use Rattle.work_folder.proofs.names.next_name.Given as goal
 
 abbrev pub invariant-loop-line : goal.invariant-loop-line
-invariant-loop-line l = MatchOption l.best (IsLast (payload_names (take l.line-index l.lines)) l.last) (λ next. IsNext (payload_names (take l.line-index l.lines)) l.last next.now)
+invariant-loop-line l = MatchOption l.best (IsLast (payload_names l.k (take l.line-index l.lines)) l.last) (λ next. IsNext (payload_names l.k (take l.line-index l.lines)) l.last next.now)

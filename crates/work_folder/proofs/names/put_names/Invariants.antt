@@ -13,7 +13,7 @@ abbrev pub invariant-names : goal.invariant-names
 invariant-names g l =
     let means = g.D.Device.means in
     record {
-      listed : Listed (payload_names l.lines) l.last (Tree 0) (codes "header/files") (means l.fn.device) (means l.device);
+      listed : Listed (payload_names l.k l.lines) l.last (Tree l.k) (codes "header/files") (means l.fn.device) (means l.device);
       touches : Touches Through (means l.fn.device) (means l.device);
       ready : IsReady (means l.device);
       plan : g.D.Device.plan l.device ≡ g.D.Device.plan l.fn.device;
@@ -21,4 +21,4 @@ invariant-names g l =
     }
 
 abbrev pub decreases-names : goal.decreases-names
-decreases-names g l = count (λ n. is_below l.last n) (payload_names l.lines)
+decreases-names g l = count (λ n. is_below l.last n) (payload_names l.k l.lines)

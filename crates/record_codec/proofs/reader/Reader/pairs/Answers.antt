@@ -5,11 +5,11 @@ use Rattle.record_codec.proofs.Loop.{goes_on, ends, is_done, starts}
 use Rattle.record_codec.proofs.reader.Reader.pairs.Goals as goal
 
 pub loop-init : goal.loop-init
-loop-init c = rw c.in_ok-pairs.ensures (starts key_of pair_at c.args.count c.args.self.now)
+loop-init c = rw c.new-pairs.ensures (starts key_of pair_at c.args.count c.args.self.now)
 
 pub returns-in_err-key : goal.returns-in_err-key
 returns-in_err-key c =
-    let p = err_from_is_err_and c.from_residual-in_err-key.result c.from_residual-in_err-key.ensures.1 in
+    let p = err_from_is_err_and c.from_residual.result c.from_residual.ensures.1 in
     rw (p.1, p.2) (ends key_of pair_at c.in_err-key.field-0.0.at c.loop.pairs c.args.count c.loop.counter c.loop.self _ c.loop-test.true c.in_err-key.ensures.read c.loop.invariant)
 
 pub loop-preserved : goal.loop-preserved

@@ -1,0 +1,17 @@
+use Rattle.std.proofs.Common.{◌≡◌, drop, length, List, ℕ, Option}
+use Rattle.std.specs.List.{zip}
+use Rattle.upd_text.specs.Told.{WhereTold}
+use Rattle.admit.specs.Told.{When}
+use Rattle.admit.specs.Given.{NoneButThese}
+use Rattle.admit.specs.Differing.{in_rest, first_differing, picked}
+use Rattle.admit.proofs.sums.first_of_rest.Given as goal
+
+abbrev pub invariant-loop-i : goal.invariant-loop-i
+invariant-loop-i g l = record {
+  same : g.S.Source.content l.source ≡ g.S.Source.content l.fn.source;
+  plan : g.S.Source.plan l.source ≡ g.S.Source.plan l.fn.source;
+  faults : g.S.Source.faults l.source ≡ g.S.Source.faults l.fn.source;
+  room : length l.buffer ≡ length l.fn.buffer;
+  given : (new : Option (List ℕ)) → WhereTold (NoneButThese (picked in_rest (zip (drop l.i l.lines) (drop l.i l.numbers)))) (g.S.Source.given l.source) new → WhereTold (NoneButThese (picked in_rest (zip l.lines l.numbers))) (g.S.Source.given l.fn.source) new;
+  value : When (g.S.Source.content l.fn.source) (λ t. first_differing in_rest t (zip (drop l.i l.lines) (drop l.i l.numbers)) ≡ first_differing in_rest t (zip l.lines l.numbers));
+}

@@ -1,0 +1,37 @@
+-- Bytes that are added to the fresh content.
+use Rattle.std.specs.Prelude.{◌≡◌, ℕ, List, [], ◌++◌, take, drop, Option, Some, None, option_map}
+use Rattle.io_model.specs.Source.{Content, bytes_at}
+use Rattle.file_module.specs.Contents.{Contents}
+use Rattle.file_module.specs.Payload.{When}
+
+-- so many bytes of a content from an offset on
+abbrev pub piece : ℕ → ℕ → Option (List ℕ) → List ℕ
+piece at count None = []
+piece at count (Some bytes) = take count (drop at bytes)
+
+-- all bytes from an offset on
+abbrev pub rest : ℕ → Option (List ℕ) → List ℕ
+rest at None = []
+rest at (Some bytes) = drop at bytes
+
+-- these bytes were added at the end of the fresh content
+abbrev pub AddsFresh : List ℕ → Contents → Contents → Type 0
+AddsFresh bytes old new = new.fresh ≡ option_map (λ before. before ++ bytes) old.fresh
+
+-- so many bytes were added; where the source's files are told, they are the file's from this place on
+pub record CopiesPiece (files : Content) (i at count : ℕ) (old new : Contents) : Type 0 where
+  pub bytes : List ℕ
+  pub added : AddsFresh bytes old new
+  pub same : When files (λ t. bytes ≡ take count (drop at (bytes_at t i)))
+
+-- some bytes were added; where the source's files are told, they are the file's
+pub record CopiesFile (files : Content) (i : ℕ) (old new : Contents) : Type 0 where
+  pub bytes : List ℕ
+  pub added : AddsFresh bytes old new
+  pub same : When files (λ t. bytes ≡ bytes_at t i)
+
+-- the fresh content has these bytes; where the source's files are told, they are this file's
+pub record HoldsFile (files : Content) (i : ℕ) (m : Contents) : Type 0 where
+  pub bytes : List ℕ
+  pub fresh : m.fresh ≡ Some bytes
+  pub same : When files (λ t. bytes ≡ bytes_at t i)

@@ -1,0 +1,137 @@
+-- What each word does, whatever the answer is.
+use Rattle.std.specs.Prelude.{◌≡◌, ◌≢◌, ◌⊎◌, ◌↔◌, ℕ, Bool, true, false, List, length, Option, Some, None}
+use Rattle.io_model.specs.Source.{Content}
+use Rattle.io_model.specs.Sink.{Written, Writes, WritesFront}
+use Rattle.file_module.specs.declared.answer.FileAct.{FileAct}
+use Rattle.file_module.specs.declared.answer.FileAct.TheVariants.{Done, Usage, BadPayload, DiskFault, SourceFault, SinkFault, Off, BadSaved}
+use Rattle.file_module.specs.declared.words.Word.{Word}
+use Rattle.file_module.specs.declared.words.Word.TheVariants.{SupportsRollback, NeedsArtifactReboot, Download, ArtifactInstall, ArtifactRollback, Cleanup, Other}
+use Rattle.file_module.specs.Contents.{Contents, WhenTold}
+use Rattle.file_module.specs.Answers.{Counts}
+use Rattle.file_module.specs.Payload.{When, IsPayload, HasPayloads, payloads}
+use Rattle.file_module.specs.Saved.{IsBad, IsNew, Kept, spelling, rolled_back}
+use Rattle.file_module.specs.Words.{reply_to}
+
+-- ---- which answers may come after a word
+
+abbrev pub takes_payload : Word → Bool
+takes_payload SupportsRollback = false
+takes_payload NeedsArtifactReboot = false
+takes_payload Download = true
+takes_payload ArtifactInstall = true
+takes_payload ArtifactRollback = false
+takes_payload Cleanup = false
+takes_payload Other = false
+
+abbrev pub is_query : Word → Bool
+is_query SupportsRollback = true
+is_query NeedsArtifactReboot = true
+is_query Download = false
+is_query ArtifactInstall = false
+is_query ArtifactRollback = false
+is_query Cleanup = false
+is_query Other = false
+
+-- the word has work to do at the place
+abbrev pub uses_place : Word → Bool
+uses_place SupportsRollback = false
+uses_place NeedsArtifactReboot = false
+uses_place Download = true
+uses_place ArtifactInstall = true
+uses_place ArtifactRollback = true
+uses_place Cleanup = true
+uses_place Other = false
+
+abbrev pub is_rollback : Word → Bool
+is_rollback SupportsRollback = false
+is_rollback NeedsArtifactReboot = false
+is_rollback Download = false
+is_rollback ArtifactInstall = false
+is_rollback ArtifactRollback = true
+is_rollback Cleanup = false
+is_rollback Other = false
+
+abbrev pub may_answer : Word → FileAct → Bool
+may_answer word Done = true
+may_answer word Usage = false
+may_answer word (BadPayload n) = takes_payload word
+may_answer word DiskFault = uses_place word
+may_answer word SourceFault = takes_payload word
+may_answer word SinkFault = is_query word
+may_answer word Off = uses_place word
+may_answer word BadSaved = is_rollback word
+
+-- ---- what each word does
+
+-- there is one payload file, or the answer says how many there are or that the source failed
+abbrev pub NeedsOne : Content → FileAct → Type 0
+NeedsOne files act = When files (λ t. (length (payloads t) ≡ 1) ⊎ ((act ≡ BadPayload (length (payloads t))) ⊎ (act ≡ SourceFault)))
+
+-- so many payload files were found, and nothing was changed
+pub record CountsPayloads (files : Content) (n : ℕ) (old new : Contents) : Type 0 where
+  pub not_one : n ≢ 1
+  pub number : HasPayloads files n
+  pub same : new ≡ old
+
+abbrev pub BadPayloadIs : Content → FileAct → Contents → Contents → Type 0
+BadPayloadIs files act old new = (n : ℕ) → act ≡ BadPayload n → CountsPayloads files n old new
+
+pub record Clears (act : FileAct) (old new : Contents) : Type 0 where
+  pub counts : Counts act old new
+  pub target : new.target ≡ old.target
+  pub saved : act ≡ Done → new.saved ≡ None
+  pub fresh : act ≡ Done → new.fresh ≡ None
+
+pub record Downloads (files : Content) (act : FileAct) (old new : Contents) : Type 0 where
+  pub clears : Clears act old new
+  pub answers : may_answer Download act ≡ true
+  pub kept : act ≡ Done → Kept (IsPayload files) old.target new
+  pub bad_payload : BadPayloadIs files act old new
+  pub needs_one : NeedsOne files act
+
+pub record Installs (files : Content) (act : FileAct) (old new : Contents) : Type 0 where
+  pub counts : Counts act old new
+  pub answers : may_answer ArtifactInstall act ≡ true
+  pub bad_payload : BadPayloadIs files act old new
+  pub needs_one : NeedsOne files act
+  pub keeps : WhenTold old ((t : Option (List ℕ)) → Kept (IsPayload files) t old → Kept (IsPayload files) t new)
+  pub target : WhenTold old (act ≡ Done → IsNew (IsPayload files) new.target)
+  pub saves : WhenTold old (act ≡ Done → old.saved ≡ None → new.saved ≡ Some (spelling old.target))
+  pub saved : WhenTold old ((bytes : List ℕ) → old.saved ≡ Some bytes → new.saved ≡ old.saved)
+
+pub record RollsBack (act : FileAct) (old new : Contents) : Type 0 where
+  pub counts : Counts act old new
+  pub answers : may_answer ArtifactRollback act ≡ true
+  pub saved : new.saved ≡ old.saved
+  pub target : WhenTold old ((new.target ≡ old.target) ⊎ (new.target ≡ rolled_back old.saved old.target))
+  pub done : WhenTold old (act ≡ Done → new.target ≡ rolled_back old.saved old.target)
+  pub keeps : WhenTold old ((files : Content) (t : Option (List ℕ)) → Kept (IsPayload files) t old → Kept (IsPayload files) t new)
+  pub restores : WhenTold old (act ≡ Done → (files : Content) (t : Option (List ℕ)) → Kept (IsPayload files) t old → new.target ≡ t)
+  pub bad_saved : WhenTold old (act ≡ BadSaved → IsBad old.saved)
+  pub bad_stays : act ≡ BadSaved → new ≡ old
+  pub finds_bad : WhenTold old (IsBad old.saved → (act ≡ BadSaved) ⊎ ((act ≡ DiskFault) ⊎ (act ≡ Off)))
+
+-- ---- the contract of the module
+
+-- What the module answers to what it is asked, and what that leaves of the place.
+pub record FileActs (asked : Option Word) (files : Content) (act : FileAct) (old new : Contents) : Type 0 where
+  pub usage : (act ≡ Usage) ↔ (asked ≡ None)
+  pub unasked : asked ≡ None → new ≡ old
+  pub counts : Counts act old new
+  pub answers : (word : Word) → asked ≡ Some word → may_answer word act ≡ true
+  pub downloads : asked ≡ Some Download → Downloads files act old new
+  pub installs : asked ≡ Some ArtifactInstall → Installs files act old new
+  pub rolls_back : asked ≡ Some ArtifactRollback → RollsBack act old new
+  pub cleans_up : asked ≡ Some Cleanup → Clears act old new
+  pub idle : (word : Word) → asked ≡ Some word → uses_place word ≡ false → new ≡ old
+
+-- what it writes: the reply to a query, or a front of it where the sink fails, and nothing else
+pub record Says (asked : Option Word) (act : FileAct) (old new : Written) : Type 0 where
+  pub reply : (word : Word) → asked ≡ Some word → is_query word ≡ true → act ≡ Done → Writes old (reply_to word) new
+  pub silent : (word : Word) → asked ≡ Some word → is_query word ≡ false → new ≡ old
+  pub unasked : asked ≡ None → new ≡ old
+  pub front : (word : Word) → asked ≡ Some word → is_query word ≡ true → act ≡ SinkFault → WritesFront old (reply_to word) new
+
+-- how a query ends
+abbrev pub IsSaid : FileAct → Type 0
+IsSaid act = (act ≡ Done) ⊎ (act ≡ SinkFault)

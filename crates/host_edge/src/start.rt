@@ -1,0 +1,27 @@
+//! What a program of the host does before and in place of its work.
+
+use crate::fault::HostFault;
+use std::fs::OpenOptions;
+use std::io;
+use std::process::ExitCode;
+use std::rt::Files;
+
+fn null<R: Files>(rt: &R) -> io::Result<R::File> {
+    OpenOptions::new()
+        .read(true)
+        .write(true)
+        .open(rt, "/dev/null")
+}
+
+/// Opens the null device three times, so that a standard stream that is closed gets it, and no file opened later takes the
+/// stream's number. It is called before anything else is opened, and what it gives is held to the end.
+pub fn fill_streams<R: Files>(rt: &R) -> io::Result<[R::File; 3]> {
+    Ok([null(rt)?, null(rt)?, null(rt)?])
+}
+
+/// Says why the program can't start, and gives its exit code.
+pub fn cannot_start<R: Eprint>(rt: &R, fault: HostFault) -> ExitCode {
+    let number = fault.number();
+    let _ = eprintln!(rt; "cannot start {number}");
+    ExitCode::from(15)
+}

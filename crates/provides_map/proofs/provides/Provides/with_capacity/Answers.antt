@@ -1,7 +1,0 @@
-use Rattle.std.proofs.Common.{arith}
-use Rattle.std.specs.List.Sorted.{IsStrictlySortedBy}
-use Rattle.provides_map.proofs.provides.Provides.with_capacity.Goals as goal
-
-pub invariant_of-result : goal.invariant_of-result
-unfolding IsStrictlySortedBy
-invariant_of-result c = rw c.in_ok-pairs.ensures.items (record { sorted = tt; pairs = tt; few = omega arith })
