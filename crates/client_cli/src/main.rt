@@ -5,12 +5,14 @@ ghost use Rattle.std.specs.Prelude.{IfOk};
 ghost use Rattle.device_mem.specs.Mem.{state_of};
 ghost use Rattle.host_edge.specs.Host.{IsNew};
 
-use client_top::{Command, Status, read_command, run};
+use client_top::{Status, run};
+use client_words::{Command, data_dir, read_words, tree_word};
 use device_mem::{AnswerList, AreaBytes, LossList, MemDevice, Script};
 use device_model::{Answer, ROOM};
 use host_edge::{
     HostDevice, HostFault, HostSink, HostSource, cannot_start, fill_streams, words_of,
 };
+use io_model::Sink;
 use script_names::{ScriptList, Site};
 use std::alloc::Global;
 use std::fs::File;
@@ -18,10 +20,10 @@ use std::process::{ExitCode, Processes};
 use std::rt::{Clock, Files};
 use upd_text::{CallList, Name, NoMemory};
 
-/// The data folder, in the folder where the program is started.
+/// The data folder where the words name none, in the folder where the program is started.
 const FOLDER: &str = "mender-data";
 
-/// Words that are no form need no device of the host: they are told over one in memory.
+/// Words that are no command need no device of the host: they are told over one in memory.
 fn plain_device(alloc: Global) -> Result<MemDevice, NoMemory>
     ensures { IfOk result (λ d. IsNew (state_of d)) }
 {
@@ -39,10 +41,11 @@ fn plain_device(alloc: Global) -> Result<MemDevice, NoMemory>
 }
 
 /// Tells the words over a device in memory, a device without a type, and no tree.
-fn tell<R: Files + Print + Drop>(
+fn tell<R: Files + Drop, O: Sink>(
     rt: R,
     alloc: Global,
     words: &[String],
+    out: &mut O,
 ) -> Result<Status, HostFault> {
     let Ok(device_type) = Name::read(b"none") else {
         return Err(HostFault::NoMemory);
@@ -54,38 +57,57 @@ fn tell<R: Files + Print + Drop>(
     let Ok(mut device) = plain_device(alloc) else {
         return Err(HostFault::NoMemory);
     };
-    let mut out = HostSink::new(&rt);
-    let mut source = HostSource::none(&rt, alloc);
-    Ok(run(alloc, words, &site, &mut source, &mut out, &mut device))
+    let mut source = HostSource::none(rt, alloc);
+    Ok(run(alloc, words, &site, &mut source, out, &mut device))
+}
+
+/// The word at an index, where there is one.
+fn word_at(words: &[String], at: Option<u32>) -> Option<&str> {
+    let word = words.get(at? as usize)?;
+    Some(word.as_str())
+}
+
+/// The data folder of the words.
+fn folder_of(words: &[String]) -> &str {
+    word_at(words, data_dir(words)).unwrap_or(FOLDER)
 }
 
 /// The tree that the words name, where they name one.
 fn source_of<R: Files + Drop>(
     rt: R,
     alloc: Global,
-    command: Command,
     words: &[String],
 ) -> Result<HostSource<R>, HostFault> {
-    match (command, words) {
-        (Command::Check, [_, tree]) => HostSource::attach(rt, alloc, tree.as_str()),
-        _ => Ok(HostSource::none(rt, alloc)),
+    match word_at(words, tree_word(words)) {
+        Some(tree) => HostSource::attach(rt, alloc, tree),
+        None => Ok(HostSource::none(rt, alloc)),
     }
 }
 
-/// Does what the words say with the device of a data folder.
-fn obey<R: Files<File = File> + Processes + Clock + Print + Drop>(
+/// Does what the words say with the device of their data folder.
+fn act<R: Files<File = File> + Processes + Clock + Drop, O: Sink>(
     rt: R,
     alloc: Global,
-    folder: &str,
     words: &[String],
+    out: &mut O,
 ) -> Result<Status, HostFault> {
-    let Some(command) = read_command(words) else {
-        return tell(rt, alloc, words);
-    };
-    let mut out = HostSink::new(&rt);
-    let (mut device, site) = HostDevice::attach(&rt, alloc, folder)?;
-    let mut source = source_of(&rt, alloc, command, words)?;
-    Ok(run(alloc, words, &site, &mut source, &mut out, &mut device))
+    let (mut device, site) = HostDevice::attach(&rt, alloc, folder_of(words))?;
+    let mut source = source_of(&rt, alloc, words)?;
+    Ok(run(alloc, words, &site, &mut source, out, &mut device))
+}
+
+/// Does what the words say, and tells it. Where they are no command, or one that is done on no device, no data folder is asked
+/// for.
+fn obey<R: Files<File = File> + Processes + Clock + Drop, O: Sink>(
+    rt: R,
+    alloc: Global,
+    words: &[String],
+    out: &mut O,
+) -> Result<Status, HostFault> {
+    match read_words(words) {
+        Err(_) | Ok(Command::Simulate { .. }) => tell(rt, alloc, words, out),
+        Ok(_) => act(rt, alloc, words, out),
+    }
 }
 
 fn main(rt: HostRuntime) -> ExitCode {
@@ -96,7 +118,8 @@ fn main(rt: HostRuntime) -> ExitCode {
     let Ok(words) = words_of(&rt) else {
         return cannot_start(&rt, HostFault::NoMemory);
     };
-    match obey(&rt, alloc, FOLDER, words.as_slice()) {
+    let mut out = HostSink::new(&rt);
+    match obey(&rt, alloc, words.as_slice(), &mut out) {
         Ok(status) => ExitCode::from(status.number()),
         Err(fault) => cannot_start(&rt, fault),
     }

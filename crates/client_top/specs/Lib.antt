@@ -1,8 +1,10 @@
-pub mod Words
-pub mod Texts
+pub mod Finds
 pub mod Boot
-pub mod Obeyed
-pub mod Deeds
-pub mod Numbers
-pub mod Drives
+pub mod Texts
+pub mod Answers
+pub mod Asked
+pub mod Did
+pub mod Steps
+pub mod Promises
+pub mod Examples
 pub mod Waiting

@@ -1,52 +1,86 @@
--- The texts that a command writes.
-use Rattle.std.specs.Prelude.{ℕ, Bool, true, false, List, [], ◌++◌, codes}
+-- The texts that commands write.
+use Rattle.std.specs.Prelude.{ℕ, Bool, true, false, List, [], ◌++◌, codes, Option, Some, None, Result, Ok}
 use Rattle.std.specs.List.{flat_map}
 use Rattle.std.specs.Fmt.{decimal}
+use Rattle.provides_map.specs.Pairs.{get}
+use Rattle.provides_map.specs.After.{artifact_name}
 use Rattle.record_codec.specs.declared.entry.Db.{Db}
+use Rattle.record_codec.specs.declared.entry.Db.TheVariants.{Empty, Full}
 use Rattle.record_codec.specs.Held.{held, marked}
+use Rattle.flow_table.specs.declared.position.State.{State}
+use Rattle.flow_table.specs.declared.position.State.TheVariants as at
 use Rattle.flow_table.specs.declared.position.Outcome.{Outcome}
-use Rattle.flow_table.specs.declared.position.Outcome.TheVariants.{Undecided, Kept, RolledBack}
 use Rattle.flow_table.specs.declared.position.Outcome.TheVariants as outcome
-use Rattle.client_top.specs.declared.status.Good.TheVariants.{Committed, Shown, Admitted}
-use Rattle.client_top.specs.declared.status.Status.{Status}
-use Rattle.client_top.specs.declared.status.Status.TheVariants.{Done, Refused, NoUpdate, Inconsistent, DiskFault, SourceFault, NoMemory, SinkFault, PowerOff, BadStore, TooLarge, NotInstalled, NotYet}
-use Rattle.admit.specs.Texts.{refused}
+use Rattle.client_words.specs.declared.command.Command.{Command}
+use Rattle.client_words.specs.declared.command.Command.TheVariants.{ShowProvides, ShowArtifact, ShowDeployment}
+use Rattle.client_words.specs.declared.command.UsageFault.{UsageFault}
+use Rattle.client_words.specs.declared.command.UsageFault.TheVariants as usage
+use Rattle.client_top.specs.declared.status.NotNow.{NotNow}
+use Rattle.client_top.specs.declared.status.NotNow.TheVariants as not_now
+
+unfoldable pub state_name : State → List ℕ
+state_name at.Idle = codes "Idle"
+state_name at.Download = codes "Download"
+state_name at.Install = codes "Install"
+state_name at.Reboot = codes "Reboot"
+state_name at.VerifyReboot = codes "VerifyReboot"
+state_name at.Commit = codes "Commit"
+state_name at.CommitLeave = codes "CommitLeave"
+state_name at.Rollback = codes "Rollback"
+state_name at.RollbackReboot = codes "RollbackReboot"
+state_name at.VerifyRollbackReboot = codes "VerifyRollbackReboot"
+state_name at.Failure = codes "Failure"
+state_name at.Cleanup = codes "Cleanup"
+state_name at.Wait = codes "Wait"
+
+unfoldable pub outcome_name : Outcome → List ℕ
+outcome_name outcome.Undecided = codes "Undecided"
+outcome_name outcome.Kept = codes "Kept"
+outcome_name outcome.Committed = codes "Committed"
+outcome_name outcome.RolledBack = codes "RolledBack"
+outcome_name outcome.Inconsistent = codes "Inconsistent"
+
+-- how a deployment ended that installed nothing
+unfoldable pub not_installed : Outcome → List ℕ
+not_installed outcome.RolledBack = codes "rolled back"
+not_installed o = codes "kept"
+
+unfoldable pub about_words : UsageFault → List ℕ
+about_words usage.NoCommand = codes "1"
+about_words (usage.UnknownCommand word) = codes "2 " ++ decimal word
+about_words usage.MissingWord = codes "3"
+about_words (usage.ExtraWord word) = codes "4 " ++ decimal word
+about_words (usage.BadNumber word) = codes "5 " ++ decimal word
+
+unfoldable pub about_now : NotNow → List ℕ
+about_now (not_now.InProgress s) = codes "1 " ++ state_name s
+about_now (not_now.MustResume s) = codes "2 " ++ state_name s
+about_now (not_now.NoRollback s) = codes "3 " ++ state_name s
+
+-- ---- what is shown
 
 -- key=value and a newline
 unfoldable pub line : List ℕ × List ℕ → List ℕ
 line p = p.0 ++ codes "=" ++ p.1 ++ codes "\n"
 
--- the pair, marked or not
+-- the name, if there is one
+abbrev pub name_line : Option (List ℕ) → List ℕ
+name_line None = codes "unknown\n"
+name_line (Some name) = name ++ codes "\n"
+
+-- the line of a pair, which may be marked
 abbrev pub mark_if : Bool → List ℕ × List ℕ → List ℕ × List ℕ
 mark_if true p = marked p
 mark_if false p = p
 
--- the pairs that a database holds, a line each, in byte order of their keys
-abbrev pub shown : Db → List ℕ
-shown db = flat_map line (held db)
+-- its number, its state and its outcome
+abbrev pub deployment : Db → List ℕ
+deployment Empty = codes "none"
+deployment (Full e) = decimal e.id ++ codes " " ++ state_name e.position.state ++ codes " " ++ outcome_name e.position.outcome
 
--- how a deployment ended that installed nothing
-unfoldable pub outcome_text : Outcome → List ℕ
-outcome_text Undecided = codes "undecided"
-outcome_text Kept = codes "kept"
-outcome_text outcome.Committed = codes "committed"
-outcome_text RolledBack = codes "rolled back"
-outcome_text outcome.Inconsistent = codes "inconsistent"
-
--- the text of an answer that shows nothing
-unfoldable pub text_of : Status → List ℕ
-text_of (Done Committed) = codes "committed\n"
-text_of (Done Shown) = []
-text_of (Done Admitted) = codes "admitted\n"
-text_of (Refused refusal) = refused refusal ++ codes "\n"
-text_of NoUpdate = codes "no update\n"
-text_of Inconsistent = codes "inconsistent\n"
-text_of DiskFault = codes "disk fault\n"
-text_of SourceFault = codes "source fault\n"
-text_of NoMemory = codes "no memory\n"
-text_of SinkFault = []
-text_of PowerOff = []
-text_of (BadStore offset) = codes "bad store " ++ decimal offset ++ codes "\n"
-text_of (TooLarge bytes) = codes "too large " ++ decimal bytes ++ codes "\n"
-text_of (NotInstalled how) = codes "not installed: " ++ outcome_text how ++ codes "\n"
-text_of (NotYet what) = codes "not yet " ++ decimal what ++ codes "\n"
+-- what a command shows of a database
+abbrev pub shown : Result Command UsageFault → Db → List ℕ
+shown (Ok ShowProvides) c = flat_map line (held c)
+shown (Ok ShowArtifact) c = name_line (get (held c) artifact_name)
+shown (Ok ShowDeployment) c = deployment c ++ codes "\n"
+shown _ c = []

@@ -1,16 +1,19 @@
 //! What each command does, but for its text.
 
-ghost use Rattle.std.specs.Prelude.{◌≡◌, ◌≤◌, ℕ, true, Some};
+ghost use Rattle.std.specs.Prelude.{◌≡◌, ◌≤◌, true, false, Ok, IsTrue};
+ghost use Rattle.client_top.specs.Answers.{fail, reads};
+ghost use Rattle.device_model.specs.State.{State};
+ghost use Rattle.record_codec.specs.Spelling.{IsRight, IfFull};
 ghost use Rattle.slot_store.specs.Kept.{IsOf};
-ghost use Rattle.client_top.specs.Boot.{Request};
-ghost use Rattle.client_top.specs.Deeds.{Acted, not_mounted};
-ghost use Rattle.client_top.specs.Drives.{WentOn};
+ghost use Rattle.client_top.specs.Steps.{Acted, Mounted, not_mounted};
 
-use crate::check::weigh;
-use crate::drive::{after, entered};
-use crate::status::{Command, Status};
+use crate::begin::install;
+use crate::check::check;
+use crate::order::go_on;
+use crate::status::Status;
+use client_words::{Command, UsageFault};
 use device_model::{Device, ROOM};
-use flow_drive::drive;
+use flow_table::Order;
 use io_model::Source;
 use script_names::Site;
 use slot_store::{MountFault, Store};
@@ -34,65 +37,63 @@ fn not_mounted(fault: MountFault) -> Status
     }
 }
 
-fn show_provides<D: Device>(alloc: Global, device: &mut D) -> Deed
-    requires on { (D.means device.old).on ≡ true }
-    requires room { 1 ≤ (D.means device.old).room }
-    ensures plan { D.plan device.new ≡ D.plan device.old }
-    ensures acted { (asked : Request) (faults : ℕ) → asked.command ≡ Some Command.ShowProvides
-        → Acted asked (D.means device.old) (D.means device.new) faults faults result }
+/// The store is to be shown. What it holds is right, as its `db` says.
+fn shown(store: Store) -> Deed
+    ensures is { result ≡ Deed.Show store }
+    ensures right { IfFull IsRight store.db }
 {
-    match Store::mount(alloc, device) {
-        Ok(store) => Deed::Show(store),
-        Err(fault) => Deed::Tell(not_mounted(fault)),
-    }
+    store.db();
+    Deed::Show(store)
 }
 
-/// Goes on with the deployment that the store holds.
-fn go_on<D: Device>(store: Store, site: &Site, device: &mut D) -> Status
+/// Does what a command says over the store that was mounted.
+fn serve<S: Source, D: Device>(
+    alloc: Global,
+    command: Command,
+    store: Store,
+    site: &Site,
+    source: &mut S,
+    device: &mut D,
+) -> Deed
     requires on { (D.means device.old).on ≡ true }
     requires room { ROOM ≤ (D.means device.old).room }
     requires of { IsOf store (D.means device.old).disk }
-    ensures plan { D.plan device.new ≡ D.plan device.old }
-    ensures went { WentOn site.now store.db result (D.means device.old) (D.means device.new) }
-{
-    let mut store = store;
-    match entered(store.db()) {
-        Ok(position) => after(drive(&mut store, site, device, position, false)),
-        Err(status) => status,
-    }
-}
-
-fn resume<D: Device>(alloc: Global, site: &Site, device: &mut D) -> Status
-    requires on { (D.means device.old).on ≡ true }
-    requires room { ROOM ≤ (D.means device.old).room }
-    ensures plan { D.plan device.new ≡ D.plan device.old }
-    ensures acted { (asked : Request) (faults : ℕ) → asked.command ≡ Some Command.Resume → asked.site ≡ site.now
-        → Acted asked (D.means device.old) (D.means device.new) faults faults (Deed.Tell result) }
-{
-    match Store::mount(alloc, device) {
-        Ok(store) => go_on(store, site, device),
-        Err(fault) => not_mounted(fault),
-    }
-}
-
-fn check<S: Source, D: Device>(alloc: Global, site: &Site, source: &mut S, device: &mut D) -> Status
-    requires on { (D.means device.old).on ≡ true }
-    requires room { 1 ≤ (D.means device.old).room }
+    requires reads { IsTrue (reads (Ok command)) }
     ensures plan { D.plan device.new ≡ D.plan device.old }
     ensures tree { S.content source.new ≡ S.content source.old }
     ensures source { S.plan source.new ≡ S.plan source.old }
-    ensures acted { Acted (record { command = Some Command.Check; site = site.now; content = S.content source.old }) (D.means device.old) (D.means device.new) (S.faults source.old) (S.faults source.new) (Deed.Tell result) }
+    ensures served { (before : State) → Mounted store before (D.means device.old)
+        → Acted (record { command = Ok command; site = site.now; content = S.content source.old }) before (D.means device.new) (record { faults = S.faults source.old; given = S.given source.old }) (record { faults = S.faults source.new; given = S.given source.new }) result }
 {
-    match Store::mount(alloc, device) {
-        Ok(store) => weigh(alloc, site, source, store.db()),
-        Err(fault) => not_mounted(fault),
+    match command {
+        Command::Install => Deed::Tell(install(alloc, store, site, source, device)),
+        Command::Check => Deed::Tell(check(alloc, &store, site, source)),
+        Command::Resume => Deed::Tell(go_on(store, Order::Resume, site, device)),
+        Command::ResumeStop => Deed::Tell(go_on(store, Order::ResumeStop, site, device)),
+        Command::Commit => Deed::Tell(go_on(store, Order::Commit, site, device)),
+        Command::Rollback => Deed::Tell(go_on(store, Order::Rollback, site, device)),
+        Command::ShowProvides => shown(store),
+        Command::ShowArtifact => shown(store),
+        Command::ShowDeployment => shown(store),
+        Command::Simulate { .. } => unreachable!(),
     }
 }
 
-/// Does what the command says, but for its text.
+/// Nothing is simulated here.
+fn simulates(command: Command) -> bool
+    ensures yes { result ≡ true → IsTrue (fail (Ok command)) }
+    ensures no { result ≡ false → IsTrue (reads (Ok command)) }
+{
+    match command {
+        Command::Simulate { .. } => true,
+        _ => false,
+    }
+}
+
+/// Does what is asked, but for its text.
 pub(crate) fn act<S: Source, D: Device>(
     alloc: Global,
-    asked: Option<Command>,
+    asked: Result<Command, UsageFault>,
     site: &Site,
     source: &mut S,
     device: &mut D,
@@ -102,12 +103,17 @@ pub(crate) fn act<S: Source, D: Device>(
     ensures plan { D.plan device.new ≡ D.plan device.old }
     ensures tree { S.content source.new ≡ S.content source.old }
     ensures source { S.plan source.new ≡ S.plan source.old }
-    ensures acted { Acted (record { command = asked; site = site.now; content = S.content source.old }) (D.means device.old) (D.means device.new) (S.faults source.old) (S.faults source.new) result }
+    ensures acted { Acted (record { command = asked; site = site.now; content = S.content source.old }) (D.means device.old) (D.means device.new) (record { faults = S.faults source.old; given = S.given source.old }) (record { faults = S.faults source.new; given = S.given source.new }) result }
 {
-    match asked {
-        None => Deed::Tell(Status::NotYet(1)),
-        Some(Command::ShowProvides) => show_provides(alloc, device),
-        Some(Command::Resume) => Deed::Tell(resume(alloc, site, device)),
-        Some(Command::Check) => Deed::Tell(check(alloc, site, source, device)),
+    let command = match asked {
+        Ok(command) => command,
+        Err(fault) => return Deed::Tell(Status::Usage(fault)),
+    };
+    if simulates(command) {
+        return Deed::Tell(Status::Usage(UsageFault::UnknownCommand(0)));
+    }
+    match Store::mount(alloc, device) {
+        Ok(store) => serve(alloc, command, store, site, source, device),
+        Err(fault) => Deed::Tell(not_mounted(fault)),
     }
 }

@@ -2,17 +2,25 @@
 #![tactic(auto)]
 
 mod act;
+mod begin;
 mod call;
 mod check;
-mod drive;
+mod laws;
+mod names;
+mod order;
 mod page;
 mod show;
 mod status;
-mod words;
+mod tell;
 
-pub use call::run;
-pub use status::{Command, Good, Status};
-pub use words::read_command;
+pub use call::{obey, run};
+pub use laws::{
+    answers_are_exact, boots_follow_one_another, commands_are_fulfilled, ends_decide_the_answer,
+    first_children_are_given_the_folder, folders_are_kept, halts_by_counts, installs_go_well,
+    other_answers_start_nothing, resumes_come_to_an_end, the_old_or_the_new_is_held,
+    worked_answers, worked_finds,
+};
+pub use status::{Good, NotNow, Status};
 
 #[cfg(test)]
 mod tests;

@@ -1,22 +1,23 @@
-//! The pairs that a database holds, and the texts of answers.
+//! What is shown of a database.
 
 ghost use Rattle.std.specs.Prelude.{◌≡◌, ◌++◌, ◌≤◌, length, codes, OnOk, OnErr};
 ghost use Rattle.std.specs.List.{flat_map};
 ghost use Rattle.std.specs.Str.{bytes_eq};
-ghost use Rattle.provides_map.specs.After.{artifact_name};
-ghost use Rattle.provides_map.specs.Pairs.{IsMap};
+ghost use Rattle.provides_map.specs.After.{artifact_name, broken};
+ghost use Rattle.provides_map.specs.Pairs.{IsMap, get};
 ghost use Rattle.io_model.specs.Sink.{Puts, WritesFront};
-ghost use Rattle.record_codec.specs.Held.{marked, held_of};
+ghost use Rattle.record_codec.specs.Held.{marked, held, held_of};
 ghost use Rattle.client_top.specs.Waiting.{IsAhead};
-ghost use Rattle.client_top.specs.Texts.{line, mark_if, outcome_text, shown, text_of};
+ghost use Rattle.client_top.specs.Texts.{line, mark_if, name_line, deployment, shown};
 
+use crate::names::{outcome_name, state_name};
 use crate::page::{Page, add_line, flush};
-use crate::status::{Good, Status};
+use client_words::{Command, UsageFault};
 use flow_table::Outcome;
 use io_model::{Line, Sink, SinkFault};
-use provides_map::Provides;
+use provides_map::{Provides, name_key};
 use record_codec::{Db, Entry};
-use upd_text::{Name, Value};
+use upd_text::{Name, Value, decimal};
 
 /// `key=value` and a newline.
 #[tactic(auto, unfolding(crate::specs::Texts::line))]
@@ -105,7 +106,7 @@ fn put_lines<O: Sink>(out: &mut O, pairs: &Provides, mark: bool) -> Result<(), S
     }
 }
 
-fn show_entry<O: Sink>(out: &mut O, entry: &Entry) -> Result<(), SinkFault>
+fn show_held<O: Sink>(out: &mut O, entry: &Entry) -> Result<(), SinkFault>
     ensures { Puts (O.means out.old) (flat_map line (held_of entry.now.position.outcome entry.now.before entry.now.new)) result (O.means out.new) }
 {
     match entry.position.outcome {
@@ -118,62 +119,90 @@ fn show_entry<O: Sink>(out: &mut O, entry: &Entry) -> Result<(), SinkFault>
 }
 
 /// The pairs that a database holds, a line each.
-pub(crate) fn show<O: Sink>(out: &mut O, db: &Db) -> Result<(), SinkFault>
-    ensures { Puts (O.means out.old) (shown db.now) result (O.means out.new) }
+fn show_provides<O: Sink>(out: &mut O, db: &Db) -> Result<(), SinkFault>
+    ensures { Puts (O.means out.old) (flat_map line (held db.now)) result (O.means out.new) }
 {
     match db {
         Db::Empty => Ok(()),
-        Db::Full(entry) => show_entry(out, entry),
+        Db::Full(entry) => show_held(out, entry),
     }
 }
 
-#[tactic(auto, unfolding(crate::specs::Texts::outcome_text))]
-fn outcome_text(outcome: Outcome) -> &'static [u8]
-    ensures text { result.now ≡ outcome_text outcome }
-    ensures short { length result.now ≤ 32 }
+/// The name of the artifact that is held.
+fn put_name<O: Sink>(out: &mut O, pairs: &Provides) -> Result<(), SinkFault>
+    ensures { Puts (O.means out.old) (name_line (get pairs.now artifact_name)) result (O.means out.new) }
 {
-    match outcome {
-        Outcome::Undecided => b"undecided",
-        Outcome::Kept => b"kept",
-        Outcome::Committed => b"committed",
-        Outcome::RolledBack => b"rolled back",
-        Outcome::Inconsistent => b"inconsistent",
+    match pairs.get(&name_key()) {
+        Some(name) => out.put(Line::named(b"", name.bytes()).bytes()),
+        None => out.put(b"unknown\n"),
     }
 }
 
-fn not_installed(outcome: Outcome) -> Line
-    ensures { result ≡ codes "not installed: " ++ outcome_text outcome ++ codes "\n" }
+/// The name with the mark behind it.
+fn marked_name(name: &Value) -> Line
+    ensures { result ≡ (name.now ++ codes "_INCONSISTENT") ++ codes "\n" }
 {
     let mut text = Line::new();
-    text.add(b"not installed: ");
-    text.add(outcome_text(outcome));
+    text.add(name.bytes());
+    text.add(b"_INCONSISTENT");
     text.add(b"\n");
     text
 }
 
-/// Writes the text of an answer that shows nothing.
-#[tactic(auto, unfolding(crate::specs::Texts::text_of))]
-pub(crate) fn say<O: Sink>(out: &mut O, status: &Status) -> Result<(), SinkFault>
-    ensures { Puts (O.means out.old) (text_of status.now) result (O.means out.new) }
+/// The name of an artifact that is mixed with another.
+fn put_marked_name<O: Sink>(out: &mut O, pairs: &Provides) -> Result<(), SinkFault>
+    ensures { Puts (O.means out.old) (name_line (get (broken pairs.now) artifact_name)) result (O.means out.new) }
 {
-    match status {
-        Status::Done(Good::Committed) => out.put(b"committed\n"),
-        Status::Done(Good::Shown) => Ok(()),
-        Status::Done(Good::Admitted) => out.put(b"admitted\n"),
-        Status::Refused(refusal) => out.put(refusal.line().bytes()),
-        Status::NoUpdate => out.put(b"no update\n"),
-        Status::Inconsistent => out.put(b"inconsistent\n"),
-        Status::DiskFault => out.put(b"disk fault\n"),
-        Status::SourceFault => out.put(b"source fault\n"),
-        Status::NoMemory => out.put(b"no memory\n"),
-        Status::SinkFault => Ok(()),
-        Status::PowerOff => Ok(()),
-        Status::BadStore(offset) => out.put(Line::numbered(
-            b"bad store ",
-            u64::from(*offset),
-        ).bytes()),
-        Status::TooLarge(bytes) => out.put(Line::numbered(b"too large ", *bytes).bytes()),
-        Status::NotInstalled(outcome) => out.put(not_installed(*outcome).bytes()),
-        Status::NotYet(what) => out.put(Line::numbered(b"not yet ", u64::from(*what)).bytes()),
+    match pairs.get(&name_key()) {
+        Some(name) => out.put(marked_name(name).bytes()),
+        None => out.put(b"unknown\n"),
+    }
+}
+
+fn show_artifact<O: Sink>(out: &mut O, db: &Db) -> Result<(), SinkFault>
+    ensures { Puts (O.means out.old) (name_line (get (held db.now) artifact_name)) result (O.means out.new) }
+{
+    let Db::Full(entry) = db else {
+        return out.put(b"unknown\n");
+    };
+    match entry.position.outcome {
+        Outcome::Undecided => put_name(out, &entry.before),
+        Outcome::Kept => put_name(out, &entry.before),
+        Outcome::Committed => put_name(out, &entry.new),
+        Outcome::RolledBack => put_name(out, &entry.before),
+        Outcome::Inconsistent => put_marked_name(out, &entry.new),
+    }
+}
+
+/// The number of the deployment, its state and its outcome.
+fn show_deployment<O: Sink>(out: &mut O, db: &Db) -> Result<(), SinkFault>
+    ensures { Puts (O.means out.old) (deployment db.now ++ codes "\n") result (O.means out.new) }
+{
+    let Db::Full(entry) = db else {
+        return out.put(b"none\n");
+    };
+    let mut text = Line::new();
+    text.add(decimal(u64::from(entry.id)).bytes());
+    text.add(b" ");
+    text.add(state_name(entry.position.state));
+    text.add(b" ");
+    text.add(outcome_name(entry.position.outcome));
+    text.add(b"\n");
+    out.put(text.bytes())
+}
+
+/// What a command shows of a database.
+pub(crate) fn show<O: Sink>(
+    out: &mut O,
+    asked: Result<Command, UsageFault>,
+    db: &Db,
+) -> Result<(), SinkFault>
+    ensures { Puts (O.means out.old) (shown asked db.now) result (O.means out.new) }
+{
+    match asked {
+        Ok(Command::ShowProvides) => show_provides(out, db),
+        Ok(Command::ShowArtifact) => show_artifact(out, db),
+        Ok(Command::ShowDeployment) => show_deployment(out, db),
+        _ => Ok(()),
     }
 }

@@ -1,359 +1,322 @@
-//! What the client shows and answers over a device in memory, by tables.
+//! What the commands do over a device, a tree and a sink in memory.
 
-mod check;
+mod artifact;
+mod faults;
+mod folder;
+mod held;
+mod hostile;
+mod limits;
+mod migrations;
+mod moments;
 mod payloads;
+mod rollbacks;
+mod rows;
+mod shows;
 mod stops;
+mod stored;
+mod trees;
+mod words;
 
-ghost use Rattle.std.specs.Prelude.{◌≡◌, ◌≤◌, true, [], IfOk};
+ghost use Rattle.std.specs.Prelude.{◌≡◌, ◌+◌, ◌≤◌, length, IfOk};
 ghost use Rattle.device_mem.specs.Mem.{state_of};
+ghost use Rattle.device_model.specs.declared.device.TheConstants.{ROOM};
 
 use super::*;
-use device_mem::{AnswerList, AreaBytes, LossList, MemDevice, Script};
+use artifact::{A, Tree, source_of};
+use device_mem::{AnswerList, AreaBytes, LossAt, LossList, MemDevice, Script};
 use device_model::{Answer, ROOM};
+use event_text::spelled;
 use io_model::{FileList, MemSink, MemSource};
-use script_names::{ScriptList, Site};
-use std::alloc::Global;
+use rows::NO_REBOOT;
+use script_names::{ScriptList, ScriptName, Site};
+use std::alloc::{AllocError, Global};
 use std::test::Fail;
-use upd_text::{CallList, Name, NoMemory};
+use stored::{area_of, count_of};
+use upd_text::{CallList, Name, NoMemory, Text32};
 
-/// The record of version 1 of a finished update to release-2.
-const RECORD: [u8; 75] = *b"MUP1\x00\x02\x00\x00\x05\x00\x00\x00\x00\x00\x00\x4b\
-\x00\x00\
-\x00\x02\x00\x0bapp.version\x00\x012\x00\x0dartifact_name\x00\x09release-2\
-\x0bsingle-file\x00";
+/// How the children of a device end: the codes of those that aren't asked, the replies, and which starts lose the power.
+#[derive(Clone, Copy)]
+struct Children {
+    codes: &'static [u8],
+    supports: &'static str,
+    needs: &'static str,
+    /// What the second payload replies in the place of `supports`.
+    other: Option<&'static str>,
+    cuts: &'static [u64],
+    /// The calls of the disk and of the work folder that fail.
+    faults: &'static [u64],
+    losses: &'static [LossAt],
+}
 
-/// The two slots, by where they begin.
-const SLOT_0: u32 = 4_096;
+/// All children exit 0 and say nothing, and nothing fails.
+const CALM: Children = Children {
+    codes: &[],
+    supports: "",
+    needs: "",
+    other: None,
+    cuts: &[],
+    faults: &[],
+    losses: &[],
+};
 
-const SLOT_1: u32 = 135_168;
+fn reply(text: &str) -> Answer {
+    Answer::Reply(0, Text32::cut(text.as_bytes()))
+}
 
-const NEW: &[u8] = b"app.version=2\nartifact_name=release-2\n";
-
-/// An area with this selector, the record in the slot that begins there, and one byte of the record changed.
-fn area_with(alloc: Global, selector: u8, slot: u32, at: u32, byte: u8) -> Result<AreaBytes, Fail> {
-    let mut area = AreaBytes::zeros(alloc)?;
-    area.set(0, &[selector]);
-    if slot <= SLOT_1 && at < 75 {
-        area.set(slot, &RECORD);
-        area.set(slot + at, &[byte]);
+fn listed(alloc: Global, numbers: &[u64]) -> Result<CallList, NoMemory> {
+    let mut list = CallList::new(alloc);
+    for number in numbers {
+        list.push(*number)?;
     }
-    Ok(area)
+    Ok(list)
 }
 
-/// A device of this area, which loses power and fails where it is told to.
-fn device_of(
-    alloc: Global,
-    area: AreaBytes,
-    losses: LossList,
-    faults: CallList,
-) -> Result<MemDevice, NoMemory>
-    ensures on { IfOk result (λ d. (state_of d).on ≡ true) }
-    ensures journal { IfOk result (λ d. (state_of d).journal ≡ []) }
-    ensures room { IfOk result (λ d. (state_of d).room ≡ ROOM) }
-{
-    let script = Script {
-        answers: AnswerList::new(alloc),
-        supports: Answer::Exit(0),
-        needs: Answer::Exit(0),
-        others: AnswerList::new(alloc),
-        losses,
-        cuts: CallList::new(alloc),
-        faults,
+fn codes_of(alloc: Global, codes: &[u8]) -> Result<AnswerList, NoMemory> {
+    let mut answers = AnswerList::new(alloc);
+    for code in codes {
+        answers.push(Answer::Exit(*code))?;
+    }
+    Ok(answers)
+}
+
+fn others_of(alloc: Global, other: Option<&str>) -> Result<AnswerList, NoMemory> {
+    let mut others = AnswerList::new(alloc);
+    if let Some(text) = other {
+        others.push(reply(text))?;
+    }
+    Ok(others)
+}
+
+fn losses_of(alloc: Global, losses: &[LossAt]) -> Result<LossList, NoMemory> {
+    let mut list = LossList::new(alloc);
+    for loss in losses {
+        list.push(*loss)?;
+    }
+    Ok(list)
+}
+
+fn script_of(alloc: Global, children: &Children) -> Result<Script, NoMemory> {
+    Ok(Script {
+        answers: codes_of(alloc, children.codes)?,
+        supports: reply(children.supports),
+        needs: reply(children.needs),
+        others: others_of(alloc, children.other)?,
+        losses: losses_of(alloc, children.losses)?,
+        cuts: listed(alloc, children.cuts)?,
+        faults: listed(alloc, children.faults)?,
         meddle: false,
-    };
-    MemDevice::new(alloc, area, ROOM, script)
-}
-
-fn calm_device(alloc: Global, area: AreaBytes) -> Result<MemDevice, NoMemory>
-    ensures on { IfOk result (λ d. (state_of d).on ≡ true) }
-    ensures journal { IfOk result (λ d. (state_of d).journal ≡ []) }
-    ensures room { IfOk result (λ d. (state_of d).room ≡ ROOM) }
-{
-    device_of(alloc, area, LossList::new(alloc), CallList::new(alloc))
-}
-
-/// A device of this type without scripts.
-fn site_of(alloc: Global, device_type: &str) -> Result<Site, Fail> {
-    Ok(Site {
-        device_type: Name::read(device_type.as_bytes()).ok().ok_or("no name")?,
-        scripts: ScriptList::new(alloc),
     })
 }
 
-fn no_tree(alloc: Global) -> MemSource {
-    MemSource::new(FileList::new(alloc), CallList::new(alloc))
+/// A device that is on, with room for a whole boot.
+fn device_with(alloc: Global, area: AreaBytes, script: Script) -> Result<MemDevice, NoMemory>
+    ensures room { IfOk result (λ d. ROOM ≤ (state_of d).room + length (state_of d).journal) }
+{
+    MemDevice::new(alloc, area, ROOM, script)
 }
 
-fn words_of(alloc: Global, word: &str) -> Result<Vec<String>, Fail> {
+/// A device's own type, and one script of its own or none.
+fn site_of(alloc: Global, device_type: &str, script: &str) -> Result<Site, Fail> {
+    let mut scripts = ScriptList::new(alloc);
+    if !script.is_empty() {
+        let name = Name::read(script.as_bytes()).ok().ok_or("a name")?;
+        let script = ScriptName::read(&name).ok_or("a script's name")?;
+        scripts.add(script).ok().ok_or("one script")?;
+    }
+    let device_type = Name::read(device_type.as_bytes()).ok().ok_or("a name")?;
+    Ok(Site {
+        device_type,
+        scripts,
+    })
+}
+
+/// The words of a line, which a blank parts.
+fn words_of(alloc: Global, line: &str) -> Result<Vec<String>, AllocError> {
     let mut words = Vec::new(alloc);
-    words.push(String::from_str(alloc, word)?)?;
+    if !line.is_empty() {
+        for word in line.split(' ') {
+            words.push(String::from_str(alloc, word)?)?;
+        }
+    }
     Ok(words)
 }
 
-/// What the command says of the area, with a sink that fails at the put `failing`.
-fn said(
+/// The next boot: power comes on, and the words of a line are obeyed.
+fn boot(
     alloc: Global,
-    word: &str,
-    area: AreaBytes,
-    failing: u64,
-) -> Result<(Status, MemSink), Fail> {
-    let words = words_of(alloc, word)?;
-    let mut list = CallList::new(alloc);
-    list.push(failing)?;
-    let mut out = MemSink::new(alloc, 200_000, list)?;
-    let mut device = calm_device(alloc, area)?;
-    let site = site_of(alloc, "beaglebone")?;
-    let mut source = no_tree(alloc);
-    let words = words.as_slice();
-    let status = run(alloc, words, &site, &mut source, &mut out, &mut device);
-    Ok((status, out))
-}
-
-#[test]
-fn a_record_shows_what_it_holds(rt: HostRuntime) -> Result<(), Fail> {
-    let marked = b"app.version=2\nartifact_name=release-2_INCONSISTENT\n".as_slice();
-    // the selector, the slot of the record, the byte that is changed and to what, the answer, the text
-    let rows: [(u8, u32, u32, u8, u8, &[u8]); 21] = [
-        (0, SLOT_0, 0, b'M', 0, NEW),
-        (1, SLOT_0, 0, b'M', 0, b""),
-        (1, SLOT_1, 0, b'M', 0, NEW),
-        (254, SLOT_0, 0, b'M', 0, NEW),
-        (255, SLOT_1, 0, b'M', 0, NEW),
-        (0, SLOT_0, 5, 1, 0, b""),
-        (0, SLOT_0, 5, 3, 0, b""),
-        (0, SLOT_0, 5, 4, 0, marked),
-        (0, SLOT_0, 4, 6, 0, NEW),
-        (0, SLOT_0, 4, 11, 0, NEW),
-        (0, SLOT_0, 4, 2, 11, b"bad store 5\n"),
-        (0, SLOT_0, 4, 10, 11, b"bad store 5\n"),
-        (0, SLOT_0, 4, 13, 11, b"bad store 4\n"),
-        (0, SLOT_0, 8, 0, 11, b"bad store 8\n"),
-        (0, SLOT_0, 8, 29, 11, b"bad store 8\n"),
-        (0, SLOT_0, 15, 74, 11, b"bad store 74\n"),
-        (0, SLOT_0, 15, 76, 11, b"bad store 75\n"),
-        (0, SLOT_0, 22, b'z', 11, b"bad store 36\n"),
-        (0, SLOT_0, 0, 1, 11, b"bad store 0\n"),
-        (0, SLOT_0, 3, b'2', 11, b"bad store 9\n"),
-        (0, SLOT_0, 3, b'3', 11, b"bad store 0\n"),
-    ];
-    for (selector, slot, at, byte, status, text) in rows {
-        let area = area_with(rt.alloc(), selector, slot, at, byte)?;
-        let (answer, out) = said(rt.alloc(), "show-provides", area, 9)?;
-        assert_eq!(rt; answer.number(), status);
-        assert_eq!(rt; out.written(), text);
-    }
-    Ok(())
-}
-
-/// The text of `show-provides` over a device that is on.
-fn shown_by(alloc: Global, device: &mut MemDevice) -> Result<MemSink, Fail>
-    requires on { (state_of device.old).on ≡ true }
-    requires journal { (state_of device.old).journal ≡ [] }
-    requires room { ROOM ≤ (state_of device.old).room }
+    device: &mut MemDevice,
+    line: &str,
+    site: &Site,
+    source: &mut MemSource,
+    out: &mut MemSink,
+) -> Result<Status, Fail>
+    requires room { ROOM ≤ (state_of device.old).room + length (state_of device.old).journal }
+    ensures room { ROOM ≤ (state_of device.new).room + length (state_of device.new).journal }
 {
-    let words = words_of(alloc, "show-provides")?;
-    let mut out = MemSink::new(alloc, 200, CallList::new(alloc))?;
-    let site = site_of(alloc, "beaglebone")?;
-    let mut source = no_tree(alloc);
-    let words = words.as_slice();
-    run(alloc, words, &site, &mut source, &mut out, device);
-    Ok(out)
+    let words = words_of(alloc, line)?;
+    device.power_on();
+    Ok(run(alloc, words.as_slice(), site, source, out, device))
 }
 
-/// The first 75 bytes of slot 1.
-fn slot_1_of(device: &MemDevice) -> Result<[u8; 75], Fail> {
-    let mut bytes = [0; 75];
-    let mut at = SLOT_1 as usize;
-    for byte in &mut bytes {
-        *byte = byte_at(device, at).ok_or("the area is whole")?;
-        at = at.saturating_add(1);
+/// A client: a device with room for a whole boot, what is its own, and the tree that it is given.
+#[derive(Drop)]
+struct Client {
+    site: Site,
+    source: MemSource,
+    device: MemDevice,
+    ghost roomy: { ROOM ≤ (state_of device).room + length (state_of device).journal },
+}
+
+/// What a boot says, and its events as lines of text.
+#[derive(Drop)]
+struct Said {
+    status: u8,
+    text: String,
+    events: String,
+}
+
+/// A sink with room for each text of the tests, which fails at no put.
+fn calm_sink(alloc: Global) -> Result<MemSink, NoMemory> {
+    MemSink::new(alloc, 200_000, CallList::new(alloc))
+}
+
+impl Client {
+    /// The status of the next boot, whose text goes to a sink.
+    fn tells(&mut self, alloc: Global, line: &str, out: &mut MemSink) -> Result<u8, Fail> {
+        let status = boot(
+            alloc,
+            &mut self.device,
+            line,
+            &self.site,
+            &mut self.source,
+            out,
+        )?;
+        Ok(status.number())
     }
-    Ok(bytes)
-}
 
-#[test]
-fn a_record_of_version_1_shows_the_same_once_it_is_migrated(rt: HostRuntime) -> Result<(), Fail> {
-    let area = area_with(rt.alloc(), 0, SLOT_0, 0, b'M')?;
-    let mut device = calm_device(rt.alloc(), area)?;
-    let first = shown_by(rt.alloc(), &mut device)?;
-    assert_eq!(rt; first.written(), NEW);
-    assert_eq!(rt; byte_at(&device, 0), Some(1));
-    let migrated = b"MUP2\x00\x02\x00\x00\x05\x01\x00\x00\x00\x00\x00\x4b\x00\x00\x00\x02";
-    assert!(rt;
-        device
-            .area()
-            .get(135_168..)
-            .ok_or("the area is whole")?
-            .starts_with(migrated)
-    );
-    // what was written is shown as it is, and written no more
-    let mut area = AreaBytes::zeros(rt.alloc())?;
-    area.set(0, &[1]);
-    area.set(SLOT_1, &slot_1_of(&device)?);
-    let mut device = calm_device(rt.alloc(), area)?;
-    let again = shown_by(rt.alloc(), &mut device)?;
-    assert_eq!(rt; again.written(), NEW);
-    assert_eq!(rt; byte_at(&device, 0), Some(1));
-    Ok(())
-}
-
-#[test]
-fn garbage_in_the_other_slot_has_no_meaning(rt: HostRuntime) -> Result<(), Fail> {
-    let mut area = area_with(rt.alloc(), 1, SLOT_1, 0, b'M')?;
-    area.set(SLOT_0, &[0x5a; 4_096]);
-    let (answer, out) = said(rt.alloc(), "show-provides", area, 9)?;
-    assert_eq!(rt; answer.number(), 0);
-    assert_eq!(rt; out.written(), NEW);
-    Ok(())
-}
-
-#[test]
-fn other_words_are_told_as_such(rt: HostRuntime) -> Result<(), Fail> {
-    for word in ["", "show-provide", "show-providesx", "install", "--help"] {
-        let area = area_with(rt.alloc(), 0, SLOT_0, 0, b'M')?;
-        let (answer, out) = said(rt.alloc(), word, area, 9)?;
-        assert_eq!(rt; answer.number(), 16);
-        assert_eq!(rt; out.written(), b"not yet 1\n".as_slice());
+    /// What the next boot says.
+    fn says(&mut self, alloc: Global, line: &str) -> Result<Said, Fail> {
+        let mut out = calm_sink(alloc)?;
+        let status = self.tells(alloc, line, &mut out)?;
+        let events = spelled(alloc, self.device.journal())?;
+        Ok(Said {
+            status,
+            text: String::from_utf8_lossy(alloc, out.written())?,
+            events: String::from_utf8_lossy(alloc, &events)?,
+        })
     }
-    Ok(())
-}
 
-#[test]
-fn a_sink_that_fails_has_a_front_of_the_text(rt: HostRuntime) -> Result<(), Fail> {
-    // one page has the whole text
-    let rows: [(u64, u8, &[u8]); 2] = [(0, 8, b""), (1, 0, NEW)];
-    for (failing, status, text) in rows {
-        let area = area_with(rt.alloc(), 0, SLOT_0, 0, b'M')?;
-        let (answer, out) = said(rt.alloc(), "show-provides", area, failing)?;
-        assert_eq!(rt; answer.number(), status);
-        assert_eq!(rt; out.written(), text);
+    /// The text of the next boot.
+    fn shows(&mut self, alloc: Global, line: &str) -> Result<String, Fail> {
+        let said = self.says(alloc, line)?;
+        Ok(said.text)
     }
-    Ok(())
 }
 
-/// A record of 131,072 bytes: 129 pairs, most of them with a value of 1,024 bytes.
-fn largest_record(alloc: Global) -> Result<Vec<u8>, Fail> {
-    let mut bytes = Vec::with_capacity(alloc, 131_072)?;
-    bytes.extend_from_slice(
-        b"MUP1\x00\x02\x00\x00\x05\x00\x00\x00\x00\x02\x00\x00\x00\x00\x00\x81",
-    )?;
-    bytes.extend_from_slice(b"\x00\x0dartifact_name\x00\x01r")?;
-    for i in 0..128u8 {
-        let key = [b'b', b'0' + i / 10, b'0' + i % 10];
-        let length: usize = if i < 127 { 1_024 } else { 87 };
-        bytes.extend_from_slice(b"\x00\x03")?;
-        bytes.extend_from_slice(&key)?;
-        bytes.extend_from_slice(&[(length / 256) as u8, (length % 256) as u8])?;
-        for _ in 0..length {
-            bytes.push(b'v')?;
-        }
-    }
-    bytes.extend_from_slice(b"\x01x\x00")?;
-    Ok(bytes)
-}
-
-#[test]
-fn the_largest_record_is_shown_whole(rt: HostRuntime) -> Result<(), Fail> {
-    let record = largest_record(rt.alloc())?;
-    assert_eq!(rt; record.len(), 131_072);
-    let mut area = AreaBytes::zeros(rt.alloc())?;
-    area.set(SLOT_0, record.as_slice());
-    let (answer, out) = said(rt.alloc(), "show-provides", area, 19)?;
-    assert_eq!(rt; answer.number(), 0);
-    assert_eq!(rt; out.written().len(), 130_791);
-    assert!(rt; out.written().starts_with(b"artifact_name=r\nb00=vvv"));
-    assert!(rt; out.written().ends_with(b"vvv\n"));
-
-    // a page has seven of these lines, and the third put fails
-    let mut area = AreaBytes::zeros(rt.alloc())?;
-    area.set(SLOT_0, record.as_slice());
-    let (answer, front) = said(rt.alloc(), "show-provides", area, 2)?;
-    assert_eq!(rt; answer.number(), 8);
-    assert_eq!(rt; front.written().len(), 16 + 14 * 1_029);
-    assert!(rt; out.written().starts_with(front.written()));
-    Ok(())
-}
-
-/// What `resume` says of a record with this state, outcome and number of states.
-fn resumed(
+/// A client of the type `beaglebone` over this area, with one script of its own or none.
+fn client_with(
     alloc: Global,
-    state: u8,
-    outcome: u8,
+    area: AreaBytes,
+    tree: &Tree<'_>,
+    own: &str,
+    script: Script,
+) -> Result<Client, Fail> {
+    Ok(Client {
+        site: site_of(alloc, "beaglebone", own)?,
+        source: source_of(alloc, tree, &[])?,
+        device: device_with(alloc, area, script)?,
+    })
+}
+
+/// A client over zeros that is given tree A.
+fn plain_client(alloc: Global, children: &Children) -> Result<Client, Fail> {
+    let script = script_of(alloc, children)?;
+    client_with(alloc, AreaBytes::zeros(alloc)?, &A, "", script)
+}
+
+/// A client over an area that is given a tree, and whose modules need no reboot.
+fn client_over(alloc: Global, area: AreaBytes, tree: &Tree<'_>) -> Result<Client, Fail> {
+    client_with(alloc, area, tree, "", script_of(alloc, &NO_REBOOT)?)
+}
+
+/// What a boot says and leaves.
+#[derive(Clone, Copy)]
+struct Told<'a> {
+    line: &'a str,
+    /// A line for each child that was started, and for its end.
+    events: &'a str,
+    text: &'a str,
+    status: u8,
+    /// What `show-deployment` says then.
+    stands: &'a str,
+    /// How many states the deployment entered.
     n: u8,
-) -> Result<(Status, MemSink, MemDevice), Fail> {
-    let mut area = AreaBytes::zeros(alloc)?;
-    area.set(SLOT_0, &RECORD);
-    area.set(SLOT_0 + 4, &[state]);
-    area.set(SLOT_0 + 5, &[outcome]);
-    area.set(SLOT_0 + 8, &[n]);
-    let words = words_of(alloc, "resume")?;
-    let mut out = MemSink::new(alloc, 100, CallList::new(alloc))?;
-    let mut device = calm_device(alloc, area)?;
-    let site = site_of(alloc, "beaglebone")?;
-    let mut source = no_tree(alloc);
-    let words = words.as_slice();
-    let status = run(alloc, words, &site, &mut source, &mut out, &mut device);
-    Ok((status, out, device))
+    /// What `show-provides` says then.
+    holds: &'a str,
 }
 
-fn byte_at(device: &MemDevice, at: usize) -> Option<u8> {
-    device.area().get(at).copied()
+fn report(alloc: Global, boot: &Told<'_>) -> Result<String, Fail> {
+    let Told {
+        line,
+        events,
+        text,
+        status,
+        stands,
+        n,
+        holds,
+    } = *boot;
+    Ok(format!(in alloc; "> {line}\n{events}{text}status {status}, n {n}, {stands}{holds}")?)
 }
 
-/// The state and the number of states for which the area stands: those of the picked cell, or of the record where it says
-/// nothing.
-fn standing(device: &MemDevice) -> Option<(u8, u8)> {
-    let area = device.area();
-    let odd = *area.get(0)? % 2 == 1;
-    let slot = if odd { 135_168 } else { 4_096 };
-    let cells = if odd { 2_048 } else { 1_024 };
-    let cell = cells + if *area.get(cells)? % 2 == 1 { 128 } else { 64 };
-    let from = if *area.get(cell)? == 0 { slot } else { cell };
-    Some((*area.get(from + 4)?, *area.get(from + 8)?))
+/// A device's boots, one after another.
+#[derive(Clone, Copy)]
+struct Row {
+    /// The record in slot 0; nothing over zeros.
+    record: &'static [u8],
+    tree: Tree<'static>,
+    /// The script of the device's own, if it has one.
+    own: &'static str,
+    children: Children,
+    boots: &'static [Told<'static>],
 }
 
-#[test]
-fn a_cleanup_is_resumed(rt: HostRuntime) -> Result<(), Fail> {
-    // state, outcome and n in the record of version 1; the exit status, the text, the events, the cell's selector, and what stands
-    let rows: [([u8; 3], u8, &[u8], u32, u8, (u8, u8)); 8] = [
-        ([11, 2, 4], 0, b"committed\n", 2, 0, (0, 5)),
-        ([11, 2, 28], 0, b"committed\n", 0, 1, (0, 28)),
-        ([11, 1, 4], 14, b"not installed: kept\n", 2, 0, (0, 5)),
-        (
-            [11, 3, 4],
-            14,
-            b"not installed: rolled back\n",
-            2,
-            0,
-            (0, 5),
-        ),
-        ([11, 4, 27], 3, b"inconsistent\n", 2, 0, (0, 28)),
-        ([11, 4, 28], 3, b"inconsistent\n", 0, 1, (0, 28)),
-        ([0, 2, 5], 2, b"no update\n", 0, 0, (0, 5)),
-        ([2, 0, 2], 16, b"not yet 2\n", 0, 0, (2, 2)),
-    ];
-    for ([state, outcome, n], status, text, events, selector, stands) in rows {
-        let (answer, out, device) = resumed(rt.alloc(), state, outcome, n)?;
-        assert_eq!(rt; answer.number(), status);
-        assert_eq!(rt; out.written(), text);
-        assert_eq!(rt; device.journal().len(), events);
-        // the mount wrote the record as version 2 into slot 1, at the position that it had; the rest went into its cells
-        assert_eq!(rt; byte_at(&device, 0), Some(1));
-        assert_eq!(rt; byte_at(&device, 4_096 + 3), Some(b'1'));
-        assert_eq!(rt; byte_at(&device, 135_168 + 3), Some(b'2'));
-        assert_eq!(rt; byte_at(&device, 135_168 + 4), Some(state));
-        assert_eq!(rt; byte_at(&device, 135_168 + 8), Some(n));
-        assert_eq!(rt; byte_at(&device, 135_168 + 9), Some(1));
-        assert_eq!(rt; byte_at(&device, 2_048), Some(selector));
-        assert_eq!(rt; standing(&device), Some(stands));
+/// The report of a client's next boot.
+fn found(alloc: Global, client: &mut Client, line: &str) -> Result<String, Fail> {
+    let said = client.says(alloc, line)?;
+    let n = count_of(&client.device);
+    let stands = client.shows(alloc, "show-deployment")?;
+    let holds = client.shows(alloc, "show-provides")?;
+    let boot = Told {
+        line,
+        events: said.events.as_str(),
+        text: said.text.as_str(),
+        status: said.status,
+        stands: stands.as_str(),
+        n,
+        holds: holds.as_str(),
+    };
+    report(alloc, &boot)
+}
+
+/// The reports of a row's boots.
+fn played(alloc: Global, row: &Row) -> Result<String, Fail> {
+    let area = area_of(alloc, row.record)?;
+    let script = script_of(alloc, &row.children)?;
+    let mut client = client_with(alloc, area, &row.tree, row.own, script)?;
+    let mut told = String::new(alloc);
+    for boot in row.boots {
+        let report = found(alloc, &mut client, boot.line)?;
+        told.push_str(report.as_str())?;
     }
-    Ok(())
+    Ok(told)
 }
 
-#[test]
-fn an_empty_store_has_no_update(rt: HostRuntime) -> Result<(), Fail> {
-    let (answer, out) = said(rt.alloc(), "resume", AreaBytes::zeros(rt.alloc())?, 9)?;
-    assert_eq!(rt; answer.number(), 2);
-    assert_eq!(rt; out.written(), b"no update\n".as_slice());
-    Ok(())
+/// What these reports are to be.
+fn wanted(alloc: Global, row: &Row) -> Result<String, Fail> {
+    let mut told = String::new(alloc);
+    for boot in row.boots {
+        let report = report(alloc, boot)?;
+        told.push_str(report.as_str())?;
+    }
+    Ok(told)
 }

@@ -1,13 +1,7 @@
 //! Trees as real folders.
 
-use super::TYPE;
-use crate::obey;
-use host_edge::HostFault;
-use std::alloc::Global;
-use std::fs::{self, File};
-use std::io;
-use std::process::{Command, Processes, Stdio};
-use std::rt::{Clock, Files};
+use super::{answer, begin, end, same, shell};
+use std::fs;
 use std::test::Fail;
 
 /// The manifest of the tree below.
@@ -26,105 +20,97 @@ const HEADER: &[u8] = b"{\"payloads\":[{\"type\":\"single-file\"}],\
 const INFO: &[u8] = b"{\"type\":\"single-file\",\"artifact_provides\":{\"app.version\":\"2\"},\
 \"clears_artifact_provides\":[\"app.*\"]}";
 
-/// Makes a tree that is taken, the folder `tree`.
-fn tree_here<R: Files>(rt: &R) -> io::Result<()> {
+/// Goes into a new folder with a device and a tree that is taken, the folder `tree`.
+fn tree_here(rt: &HostRuntime, folder: &str) -> Result<(), Fail> {
+    begin(rt, folder)?;
     fs::create_dir_all(rt, "tree/header/headers/0000")?;
     fs::create_dir_all(rt, "tree/data/0000")?;
     fs::write(rt, "tree/version", VERSION)?;
     fs::write(rt, "tree/header/header-info", HEADER)?;
     fs::write(rt, "tree/header/headers/0000/type-info", INFO)?;
-    fs::write(rt, "tree/data/0000/app.bin", b"abc")?;
-    fs::write(rt, "tree/manifest", MANIFEST)
+    fs::write(rt, "tree/data/0000/app.bin", b"abc".as_slice())?;
+    fs::write(rt, "tree/manifest", MANIFEST)?;
+    Ok(())
 }
 
-/// The exit status of `check` of a tree, or why the client can't start.
-fn checked<R: Files<File = File> + Processes + Clock + Print>(
-    rt: &R,
-    alloc: Global,
-    tree: &str,
-) -> Result<Result<u8, HostFault>, Fail> {
-    let mut words = Vec::new(alloc);
-    words.push(String::from_str(alloc, "check")?)?;
-    words.push(String::from_str(alloc, tree)?)?;
-    Ok(obey(rt, alloc, "data", words.as_slice()).map(|status| status.number()))
-}
+/// What the shell does to the tree, how it undoes it, and how the answer to `check tree` begins between the two.
+type Change = (&'static str, &'static str, &'static str);
 
-/// Has the shell do this.
-fn shell<R: Processes>(rt: &R, alloc: Global, line: &str) -> Result<(), Fail> {
-    let mut command = Command::new(alloc, "/bin/sh")?;
-    command.arg("-c")?;
-    command.arg(line)?;
-    let mut child = command.stdin(Stdio::null()).spawn(rt)?;
-    if child.wait()?.code() == Some(0) {
-        Ok(())
-    } else {
-        Err("the shell failed".into())
+fn try_changes(rt: &HostRuntime, rows: &[Change]) -> Result<(), Fail> {
+    for (change, back, wanted) in rows {
+        shell(rt, rt.alloc(), change)?;
+        let answer = answer(rt, "check tree")?;
+        let begin = answer.as_str().get(..wanted.len()).unwrap_or("");
+        same(change, begin, wanted)?;
+        shell(rt, rt.alloc(), back)?;
     }
+    Ok(())
 }
 
 #[test]
 fn trees_of_real_files_are_weighed(rt: HostRuntime) -> Result<(), Fail> {
-    fs::create_dir(&rt, "weighed")?;
-    std::env::set_current_dir(&rt, "weighed")?;
-    tree_here(&rt)?;
-    fs::create_dir(&rt, "data")?;
-    fs::write(&rt, "data/device_type", TYPE)?;
-    let alloc = rt.alloc();
-    assert_eq!(rt; checked(&rt, alloc, "tree")?, Ok(0));
-    assert_eq!(rt; checked(&rt, alloc, "nowhere")?, Err(HostFault::NoTree));
-    assert_eq!(rt;
-        checked(&rt, alloc, "data/device_type")?,
-        Err(HostFault::NoTree)
-    );
-    // what the shell does to the tree, how it undoes it, and the exit status between the two
+    tree_here(&rt, "weighed")?;
     let rows = [
-        ("ln -s tree linked", "true", 0),
+        ("true", "true", "0 admitted\n"),
+        ("mkdir tree/data/0000/empty", "true", "0 admitted\n"),
         (
             "mv tree/version v; ln -s ../v tree/version",
-            "rm tree/version; mv v tree/version",
-            0,
+            "true",
+            "0 admitted\n",
         ),
-        ("mkfifo tree/data/0000/pipe", "rm tree/data/0000/pipe", 6),
-        ("ln -s .. tree/data/0000/up", "rm tree/data/0000/up", 6),
-        (
-            "ln -s nowhere tree/data/0000/gone",
-            "rm tree/data/0000/gone",
-            6,
-        ),
-        (
-            "touch \"$(printf 'tree/data/0000/a\\377')\"",
-            "rm tree/data/0000/a?; true",
-            6,
-        ),
+        ("mv tree t; ln -s t tree", "true", "0 admitted\n"),
         (
             "printf abd > tree/data/0000/app.bin",
             "printf abc > tree/data/0000/app.bin",
-            1,
+            "1 refused 18 data/0000/app.bin ",
         ),
-        ("touch tree/data/0000/more", "rm tree/data/0000/more", 1),
         (
-            "for i in 1 2 3 4 5 6 7 8 9; do touch \"tree/data/0000/$i-$(printf %0200d 0)\"; done",
-            "rm tree/data/0000/?-*",
-            1,
+            "touch tree/data/0000/more",
+            "rm tree/data/0000/more",
+            "1 refused 10 data/0000/more\n",
+        ),
+        (
+            "touch \"tree/data/0000/$(printf %0200d 0)\"",
+            "rm tree/data/0000/0*",
+            "1 refused 5 0\n",
         ),
         (
             "i=0; while [ $i -lt 900 ]; do : > tree/data/0000/file-$i; i=$((i + 1)); done",
-            "rm tree/data/0000/file-*",
-            1,
+            "true",
+            "1 refused 3 905\n",
+        ),
+        ("rm -r t; touch t", "true", "15 cannot start 6\n"),
+        ("rm tree", "true", "15 cannot start 6\n"),
+    ];
+    try_changes(&rt, &rows)?;
+    end(&rt, "weighed")
+}
+
+#[test]
+fn what_is_no_file_is_never_opened(rt: HostRuntime) -> Result<(), Fail> {
+    tree_here(&rt, "unopened")?;
+    let rows = [
+        (
+            "mkfifo tree/data/0000/pipe",
+            "rm tree/data/0000/pipe",
+            "6 source fault\n",
         ),
         (
-            "mkdir tree/data/0000/empty",
-            "rmdir tree/data/0000/empty",
-            0,
+            "ln -s .. tree/data/0000/up",
+            "rm tree/data/0000/up",
+            "6 source fault\n",
+        ),
+        (
+            "ln -s nowhere tree/data/0000/gone",
+            "rm tree/data/0000/gone",
+            "6 source fault\n",
+        ),
+        (
+            "touch \"$(printf 'tree/data/0000/a\\377')\"",
+            "rm tree/data/0000/a?",
+            "6 source fault\n",
         ),
     ];
-    for (change, back, status) in rows {
-        shell(&rt, alloc, change)?;
-        assert_eq!(rt; checked(&rt, alloc, "tree")?, Ok(status), "after {change}");
-        shell(&rt, alloc, back)?;
-    }
-    assert_eq!(rt; checked(&rt, alloc, "linked")?, Ok(0));
-    std::env::set_current_dir(&rt, "..")?;
-    rt.remove_dir_all(alloc, "weighed")?;
-    Ok(())
+    try_changes(&rt, &rows)?;
+    end(&rt, "unopened")
 }

@@ -1,125 +1,204 @@
-//! What `check` says of trees with several payloads.
+//! Deployments of several payloads.
 
-use super::check::{File, Tree, add_file, add_listed, checked, files_of};
-use device_mem::AreaBytes;
-use io_model::{FileList, MemSink};
-use std::alloc::Global;
+use super::artifact::{A, File, Tree};
+use super::rows::{FIRST, NEW};
+use super::trees::{answered, refused};
+use super::{CALM, Children, Row, Told, played, wanted};
 use std::test::Fail;
 
-/// The status and the text over an empty database.
-fn told(alloc: Global, files: FileList) -> Result<(u8, MemSink), Fail> {
-    let area = AreaBytes::zeros(alloc)?;
-    checked(alloc, files, &[], area, "beaglebone")
-}
-
-const HEADER: File = (
+const TWO_TYPES: File<'static> = (
     "header/header-info",
     b"{\"payloads\":[{\"type\":\"single-file\"},{\"type\":\"conf\"}],\
 \"artifact_provides\":{\"artifact_name\":\"release-2\"},\
 \"artifact_depends\":{\"device_type\":[\"beaglebone\"]}}",
 );
 
-const NO_NAME: File = (
-    "header/header-info",
-    b"{\"payloads\":[{\"type\":\"single-file\"},{\"type\":\"conf\"}],\"artifact_provides\":{}}",
-);
+/// Tree A with a second payload of the type `conf`.
+pub(super) const TWO: Tree<'static> = Tree {
+    changes: &[
+        TWO_TYPES,
+        ("header/headers/0001/type-info", b"{\"type\":\"conf\"}"),
+        ("data/0001/c", b"abc"),
+    ],
+    ..A
+};
 
-const NINE: File = ("header/header-info", b"{\"payloads\":[1,2,3,4,5,6,7,8,9]}");
+/// Each module is called, and asked, in turn.
+const BOTH: Told<'static> = Told {
+    line: "install tree",
+    events: "\
+module 0 Download\nexit 0\nmodule 1 Download\nexit 0\n\
+ask 0 SupportsRollback\nreply 0 -\nask 1 SupportsRollback\nreply 0 -\n\
+module 0 ArtifactInstall\nexit 0\nmodule 1 ArtifactInstall\nexit 0\n\
+ask 0 NeedsArtifactReboot\nreply 0 -\nask 1 NeedsArtifactReboot\nreply 0 -\n\
+module 0 ArtifactCommit\nexit 0\nmodule 1 ArtifactCommit\nexit 0\n\
+module 0 Cleanup\nexit 0\nmodule 1 Cleanup\nexit 0\n",
+    text: "committed\n",
+    status: 0,
+    stands: "1 Idle Committed\n",
+    n: 5,
+    holds: NEW,
+};
 
-const OLD: File = ("version", b"{\"format\":\"mender\",\"version\":2}");
+/// Of two modules one can roll back.
+const UNALIKE: Told<'static> = Told {
+    events: "\
+module 0 Download\nexit 0\nmodule 1 Download\nexit 0\n\
+ask 0 SupportsRollback\nreply 0 -\nask 1 SupportsRollback\nreply 0 596573\n\
+module 0 Cleanup\nexit 0\nmodule 1 Cleanup\nexit 0\n",
+    text: "not installed: kept\n",
+    status: 14,
+    stands: "1 Idle Kept\n",
+    n: 2,
+    holds: "",
+    ..BOTH
+};
 
-const BROKEN: File = ("header/headers/0000/type-info", b"{");
+/// The client reboots the system, once.
+const ONE_REBOOT: Told<'static> = Told {
+    events: "\
+module 0 Download\nexit 0\nmodule 1 Download\nexit 0\n\
+ask 0 SupportsRollback\nreply 0 -\nask 1 SupportsRollback\nreply 0 -\n\
+module 0 ArtifactInstall\nexit 0\nmodule 1 ArtifactInstall\nexit 0\n\
+ask 0 NeedsArtifactReboot\nreply 0 596573\nask 1 NeedsArtifactReboot\nreply 0 596573\n\
+reboot\nexit 0\n",
+    text: "reboot needed\n",
+    status: 4,
+    stands: "1 Reboot Undecided\n",
+    n: 3,
+    holds: "",
+    ..BOTH
+};
 
-const OTHER: File = ("header/headers/0000/type-info", b"{\"type\":\"other\"}");
+/// A module that fails ends the calls of its state.
+const HALF: Told<'static> = Told {
+    events: "\
+module 0 Download\nexit 0\nmodule 1 Download\nexit 0\n\
+ask 0 SupportsRollback\nreply 0 -\nask 1 SupportsRollback\nreply 0 -\n\
+module 0 ArtifactInstall\nexit 1\n\
+module 0 ArtifactFailure\nexit 0\nmodule 1 ArtifactFailure\nexit 0\n\
+module 0 Cleanup\nexit 0\nmodule 1 Cleanup\nexit 0\n",
+    text: "inconsistent\n",
+    status: 3,
+    stands: "1 Idle Inconsistent\n",
+    n: 4,
+    holds: "app.version=2\nartifact_name=release-2_INCONSISTENT\n",
+    ..BOTH
+};
 
-const CONF: File = ("header/headers/0001/type-info", b"{\"type\":\"conf\"}");
+/// Installed once more.
+const LATER: Told<'static> = Told {
+    stands: "2 Idle Committed\n",
+    ..BOTH
+};
 
-const NO_CONF: File = (
-    "header/headers/0001/type-info",
-    b"{\"type\":\"single-file\"}",
-);
+const CALMLY: Row = Row {
+    tree: TWO,
+    children: CALM,
+    ..FIRST
+};
 
-const NO_JSON: File = ("header/headers/0001/type-info", b"conf");
+const NEEDS: Children = Children {
+    needs: "Yes",
+    ..CALM
+};
 
-const WANTING: File = (
-    "header/headers/0001/type-info",
-    b"{\"type\":\"conf\",\"artifact_depends\":{\"conf.version\":\"1\"}}",
-);
+const UNLIKE: Children = Children {
+    other: Some("Yes"),
+    ..CALM
+};
 
-const C: File = ("data/0001/c", b"abc");
+const FAILS: Children = Children {
+    codes: &[0, 0, 1],
+    ..CALM
+};
 
-const STRAY: File = ("data/0002/x", b"x");
+const ROWS: [Row; 4] = [
+    Row {
+        children: CALM,
+        boots: &[BOTH, LATER],
+        ..CALMLY
+    },
+    Row {
+        children: UNLIKE,
+        boots: &[UNALIKE],
+        ..CALMLY
+    },
+    Row {
+        children: NEEDS,
+        boots: &[ONE_REBOOT],
+        ..CALMLY
+    },
+    Row {
+        children: FAILS,
+        boots: &[HALF],
+        ..CALMLY
+    },
+];
 
-/// A tree with a second payload, and what else is wrong with it: the first cause counts.
 #[test]
-fn a_second_payload_is_taken_or_refused_by_the_first_cause(rt: HostRuntime) -> Result<(), Fail> {
-    let rows: [(&[File], &[u8]); 15] = [
-        (&[HEADER, CONF, C], b"admitted\n"),
-        (&[HEADER, CONF], b"admitted\n"),
-        (&[HEADER, C], b"refused 19 1\n"),
-        (&[HEADER, CONF, C, STRAY], b"refused 20 data/0002/x\n"),
-        (&[HEADER, NO_CONF, C], b"refused 14 7 1\n"),
-        (&[HEADER, NO_JSON, C], b"refused 14 1 2 1\n"),
-        (&[HEADER, WANTING, C], b"refused 17 conf.version\n"),
-        (&[CONF], b"refused 20 header/headers/0001/type-info\n"),
-        (&[NINE], b"refused 14 5 9\n"),
-        (&[HEADER, CONF, ("data/0008/x", b"x")], b"refused 5 5\n"),
-        (&[OLD, NO_NAME, BROKEN, STRAY], b"refused 13\n"),
-        (&[NO_NAME, BROKEN, STRAY], b"refused 14 2 5\n"),
-        (&[HEADER, BROKEN, STRAY], b"refused 19 1\n"),
-        (
-            &[HEADER, BROKEN, NO_JSON, STRAY],
-            b"refused 20 data/0002/x\n",
-        ),
-        (&[HEADER, OTHER, NO_JSON], b"refused 14 7\n"),
-    ];
-    for (changes, text) in rows {
-        let files = files_of(rt.alloc(), Tree { changes, lines: "" })?;
-        let (_, out) = told(rt.alloc(), files)?;
-        assert_eq!(rt; out.written(), text);
+fn two_payloads_go_through_each_state_in_turn(rt: HostRuntime) -> Result<(), Fail> {
+    for row in ROWS {
+        assert_eq!(rt; played(rt.alloc(), &row)?, wanted(rt.alloc(), &row)?);
     }
     Ok(())
 }
 
-const EIGHT_TYPES: &[u8] =
-    b"{\"payloads\":[{\"type\":\"a\"},{\"type\":\"a\"},{\"type\":\"a\"},{\"type\":\"a\"},\
-{\"type\":\"a\"},{\"type\":\"a\"},{\"type\":\"a\"},{\"type\":\"a\"}],\
-\"artifact_provides\":{\"artifact_name\":\"release-2\"},\"artifact_depends\":{\"device_type\":\"beaglebone\"}}";
+const CONF: File<'static> = ("header/headers/0001/type-info", b"{\"type\":\"conf\"}");
 
-/// A tree of eight payloads with so many files in turn; the last one's type-info has this type.
-fn eight(alloc: Global, last: &str, count: u32) -> Result<FileList, Fail> {
-    let mut files = FileList::new(alloc);
-    let mut manifest = Vec::new(alloc);
-    let version = b"{\"format\":\"mender\",\"version\":3}";
-    add_listed(&mut files, &mut manifest, "version", version)?;
-    add_listed(&mut files, &mut manifest, HEADER.0, EIGHT_TYPES)?;
-    for k in 0..8 {
-        let path = format!(in alloc; "header/headers/000{k}/type-info")?;
-        let kind = if k == 7 { last } else { "a" };
-        let info = format!(in alloc; "{{\"type\":\"{kind}\"}}")?;
-        add_listed(&mut files, &mut manifest, path.as_str(), info.as_bytes())?;
-    }
-    for i in 0..count {
-        let path = format!(in alloc; "data/000{}/{i}", i % 8)?;
-        add_listed(&mut files, &mut manifest, path.as_str(), b"abc")?;
-    }
-    add_file(&mut files, "manifest", manifest.as_slice())?;
-    Ok(files)
-}
+const NO_CONF: File<'static> = (
+    "header/headers/0001/type-info",
+    b"{\"type\":\"single-file\"}",
+);
 
+const NO_JSON: File<'static> = ("header/headers/0001/type-info", b"conf");
+
+const WANTING: File<'static> = (
+    "header/headers/0001/type-info",
+    b"{\"type\":\"conf\",\"artifact_depends\":{\"conf.version\":\"1\"}}",
+);
+
+const NO_NAME: File<'static> = (
+    "header/header-info",
+    b"{\"payloads\":[{\"type\":\"single-file\"},{\"type\":\"conf\"}],\"artifact_provides\":{}}",
+);
+
+const NINE: File<'static> = ("header/header-info", b"{\"payloads\":[1,2,3,4,5,6,7,8,9]}");
+
+const OLD: File<'static> = ("version", b"{\"format\":\"mender\",\"version\":2}");
+
+const BROKEN: File<'static> = ("header/headers/0000/type-info", b"{");
+
+const OTHER: File<'static> = ("header/headers/0000/type-info", b"{\"type\":\"other\"}");
+
+const C: File<'static> = ("data/0001/c", b"abc");
+
+const STRAY: File<'static> = ("data/0002/x", b"x");
+
+const REFUSED: [(&[File<'static>], &str); 12] = [
+    (&[TWO_TYPES, C], "refused 19 1\n"),
+    (&[TWO_TYPES, CONF, C, STRAY], "refused 20 data/0002/x\n"),
+    (&[TWO_TYPES, NO_CONF, C], "refused 14 7 1\n"),
+    (&[TWO_TYPES, NO_JSON, C], "refused 14 1 2 1\n"),
+    (&[TWO_TYPES, WANTING, C], "refused 17 conf.version\n"),
+    (&[CONF], "refused 20 header/headers/0001/type-info\n"),
+    (&[NINE], "refused 14 5 9\n"),
+    (&[OLD, NO_NAME, BROKEN, STRAY], "refused 13\n"),
+    (&[NO_NAME, BROKEN, STRAY], "refused 14 2 5\n"),
+    (&[TWO_TYPES, BROKEN, STRAY], "refused 19 1\n"),
+    (
+        &[TWO_TYPES, BROKEN, NO_JSON, STRAY],
+        "refused 20 data/0002/x\n",
+    ),
+    (&[TWO_TYPES, OTHER, NO_JSON], "refused 14 7\n"),
+];
+
+/// A tree with a second payload, and what is wrong with it.
 #[test]
-fn eight_payloads_are_taken(rt: HostRuntime) -> Result<(), Fail> {
-    // the last payload's type, how many files the payloads have, and the text
-    let rows: [(&str, u32, &[u8]); 4] = [
-        ("a", 8, b"admitted\n"),
-        ("a", 245, b"admitted\n"),
-        ("a", 246, b"refused 3 257\n"),
-        ("b", 8, b"refused 14 7 7\n"),
-    ];
-    for (last, count, text) in rows {
-        let files = eight(rt.alloc(), last, count)?;
-        let (_, out) = told(rt.alloc(), files)?;
-        assert_eq!(rt; out.written(), text);
+fn a_second_payload_is_refused_by_the_first_cause(rt: HostRuntime) -> Result<(), Fail> {
+    for (changes, text) in REFUSED {
+        let found = answered(rt.alloc(), &Tree { changes, ..A })?;
+        assert_eq!(rt; found, refused(rt.alloc(), text)?);
     }
     Ok(())
 }

@@ -1,147 +1,207 @@
-//! A cleanup that is stopped by a loss or a fault at each of its calls.
+//! Deployments that are stopped at each call of the device, and then resumed until none is in progress.
 
-use super::{RECORD, SLOT_0, device_of, no_tree, site_of, standing, words_of};
-use crate::run;
-use device_mem::{AreaBytes, LossAt, LossList, MemDevice, Tear};
-use device_model::Event;
-use io_model::MemSink;
+use super::artifact::A;
+use super::rows::{COMMITTED, NO_REBOOT};
+use super::stored::count_of;
+use super::{Children, Client, Said, Told, client_with, listed, losses_of, script_of};
+use device_mem::{AreaBytes, LossAt, Tear};
 use std::alloc::Global;
 use std::test::Fail;
-use upd_text::CallList;
 
-/// What is left by a `resume` from the cleanup with `n` 4: the exit status, the text's length, the events, and the state and
-/// `n` for which the area then stands.
-#[derive(Clone, Copy, Debug, PartialEq, Eq)]
-struct Left {
-    status: u8,
-    text: usize,
-    starts: u32,
-    state: u8,
-    n: u8,
+/// A deployment that is stopped: how its children end, the boots that it has if it isn't, and what takes it back.
+pub(super) struct Course {
+    pub children: Children,
+    pub boots: &'static [Told<'static>],
+    pub undo: &'static str,
 }
 
-fn starts_in(device: &MemDevice) -> u32 {
-    let journal = device.journal();
-    let mut starts = 0u32;
-    for i in 0..journal.len() {
-        if matches!(journal.at(i), Event::Start(_)) {
-            starts = starts.saturating_add(1);
+const AT_ONCE: Course = Course {
+    children: NO_REBOOT,
+    boots: &[COMMITTED],
+    undo: "module 0 ArtifactFailure\n",
+};
+
+/// The first call of a resume in each state; none stands for what takes the update back.
+const FIRST_CALLS: [(&str, &str); 12] = [
+    (" Download ", "module 0 Cleanup\n"),
+    (" Install ", ""),
+    (" Reboot ", "module 0 ArtifactVerifyReboot\n"),
+    (" VerifyReboot ", ""),
+    (" Commit ", ""),
+    (" CommitLeave ", "module 0 Cleanup\n"),
+    (" Rollback ", "module 0 ArtifactRollback\n"),
+    (
+        " RollbackReboot ",
+        "module 0 ArtifactVerifyRollbackReboot\n",
+    ),
+    (
+        " VerifyRollbackReboot ",
+        "module 0 ArtifactVerifyRollbackReboot\n",
+    ),
+    (" Failure ", "module 0 ArtifactFailure\n"),
+    (" Cleanup ", "module 0 Cleanup\n"),
+    (" Wait ", "module 0 ArtifactCommit\n"),
+];
+
+/// The first call of a resume, by what `show-deployment` says before it; none where no deployment is in progress.
+fn first_call(stands: &str, undo: &'static str) -> Option<&'static str> {
+    for (state, call) in FIRST_CALLS {
+        if stands.contains(state) {
+            return Some(if call.is_empty() { undo } else { call });
         }
     }
-    starts
+    None
 }
 
-fn left_by(alloc: Global, losses: LossList, faults: CallList) -> Result<Left, Fail> {
-    let mut area = AreaBytes::zeros(alloc)?;
-    // of version 2, so that the mount writes nothing
-    area.set(SLOT_0, &RECORD);
-    area.set(SLOT_0 + 3, b"2");
-    area.set(SLOT_0 + 4, &[11]);
-    area.set(SLOT_0 + 8, &[4, 1]);
-    let words = words_of(alloc, "resume")?;
-    let mut out = MemSink::new(alloc, 100, CallList::new(alloc))?;
-    let mut device = device_of(alloc, area, losses, faults)?;
-    let site = site_of(alloc, "beaglebone")?;
-    let mut source = no_tree(alloc);
-    let words = words.as_slice();
-    let status = run(alloc, words, &site, &mut source, &mut out, &mut device);
-    let (state, n) = standing(&device).ok_or("the area is whole")?;
-    Ok(Left {
-        status: status.number(),
-        text: out.written().len(),
-        starts: starts_in(&device),
-        state,
-        n,
-    })
+/// Whether the boot did what it was to do, or a front of it up to a loss or a fault.
+fn is_front(said: &Said, told: &Told<'_>) -> bool {
+    let events = said.events.as_str();
+    match said.status {
+        10 => match events.strip_suffix("loss\n") {
+            Some(front) => told.events.starts_with(front) && said.text.is_empty(),
+            None => false,
+        },
+        5 => told.events.starts_with(events) && said.text.as_str() == "disk fault\n",
+        status => {
+            status == told.status && events == told.events && said.text.as_str() == told.text
+        }
+    }
 }
 
-/// The calls are: 0 to 4 the mount, 5 to 8 the put of Cleanup with `n` 5 (cell, sync, selector, sync), 9 the module, 10 to 13
-/// the put of Idle. What stands for each tear of what isn't synced: the old bytes, the new ones, 0xff and 0x10. A selector of
-/// 0xff picks cell 1, one of 0x10 cell 0.
-#[test]
-fn a_loss_leaves_the_last_position_or_the_stopped_one(rt: HostRuntime) -> Result<(), Fail> {
-    let (old, entered, ended) = ((11, 4), (11, 5), (0, 5));
-    // the call, before it or after it, the children that were started, and what stands by the tear
-    let rows = [
-        (0, true, 0, [old; 4]),
-        (0, false, 0, [old; 4]),
-        (1, true, 0, [old; 4]),
-        (1, false, 0, [old; 4]),
-        (2, true, 0, [old; 4]),
-        (4, false, 0, [old; 4]),
-        (5, true, 0, [old; 4]),
-        (5, false, 0, [old; 4]),
-        (6, true, 0, [old; 4]),
-        (6, false, 0, [old; 4]),
-        (7, true, 0, [old; 4]),
-        (7, false, 0, [old, entered, entered, old]),
-        (8, true, 0, [old, entered, entered, old]),
-        (8, false, 0, [entered; 4]),
-        (9, true, 0, [entered; 4]),
-        (9, false, 1, [entered; 4]),
-        (10, true, 1, [entered; 4]),
-        (10, false, 1, [entered; 4]),
-        (11, true, 1, [entered; 4]),
-        (11, false, 1, [entered; 4]),
-        (12, true, 1, [entered; 4]),
-        (12, false, 1, [entered, ended, entered, ended]),
-        (13, true, 1, [entered, ended, entered, ended]),
-        (13, false, 1, [ended; 4]),
-    ];
-    for (call, before, starts, stands) in rows {
-        let tears = [Tear::Old, Tear::New, Tear::Byte(0xff), Tear::Byte(0x10)];
-        for (tear, (state, n)) in tears.into_iter().zip(stands) {
-            let mut losses = LossList::new(rt.alloc());
-            losses.push(LossAt { call, before, tear })?;
-            let wanted = Left {
-                status: 10,
-                text: 0,
-                starts,
-                state,
-                n,
-            };
-            let none = CallList::new(rt.alloc());
-            assert_eq!(rt; left_by(rt.alloc(), losses, none)?, wanted);
+/// Goes through the boots up to the one that is stopped.
+fn begin(alloc: Global, client: &mut Client, course: &Course) -> Result<(), Fail> {
+    for told in course.boots {
+        let said = client.says(alloc, told.line)?;
+        if !is_front(&said, told) {
+            return Err("the boot did something else".into());
+        }
+        if said.status == 10 || said.status == 5 {
+            break;
         }
     }
     Ok(())
 }
 
-#[test]
-fn a_fault_leaves_the_last_position_or_the_stopped_one(rt: HostRuntime) -> Result<(), Fail> {
-    let (old, entered, ended) = ((11, 4), (11, 5), (0, 5));
-    // A write that fails leaves its bytes as they were. The module is no call of the disk, so that it can't fail so.
-    let rows = [
-        (0, 5, 0, old),
-        (1, 5, 0, old),
-        (2, 5, 0, old),
-        (3, 5, 0, old),
-        (4, 5, 0, old),
-        (5, 5, 0, old),
-        (6, 5, 0, old),
-        (7, 5, 0, old),
-        (8, 5, 0, entered),
-        (9, 0, 1, ended),
-        (10, 5, 1, entered),
-        (11, 5, 1, entered),
-        (12, 5, 1, entered),
-        (13, 5, 1, ended),
-        (14, 0, 1, ended),
-    ];
-    for (call, status, starts, (state, n)) in rows {
-        let mut faults = CallList::new(rt.alloc());
-        faults.push(call)?;
-        let wanted = Left {
-            status,
-            text: if status == 5 { 11 } else { 10 },
-            starts,
-            state,
-            n,
+/// Resumes until no deployment is in progress, and tells where that leaves it. Each boot begins with the call that the state
+/// has next; at the limit of states there is none.
+fn settle(alloc: Global, client: &mut Client, course: &Course) -> Result<String, Fail> {
+    for _ in 0..16 {
+        let stands = client.shows(alloc, "show-deployment")?;
+        let Some(call) = first_call(stands.as_str(), course.undo) else {
+            return Ok(stands);
         };
-        assert_eq!(rt;
-            left_by(rt.alloc(), LossList::new(rt.alloc()), faults)?,
-            wanted
-        );
+        if count_of(&client.device) >= 28 {
+            return Err("the deployment came to its limit of states".into());
+        }
+        let said = client.says(alloc, "resume")?;
+        if !said.events.as_str().starts_with(call) {
+            return Err("the boot began with another call".into());
+        }
     }
+    Err("the deployment has no end".into())
+}
+
+/// Where a deployment ends that is stopped by these losses and faults.
+fn ended(
+    alloc: Global,
+    course: &Course,
+    losses: &[LossAt],
+    faults: &[u64],
+) -> Result<String, Fail> {
+    let mut script = script_of(alloc, &course.children)?;
+    script.losses = losses_of(alloc, losses)?;
+    script.faults = listed(alloc, faults)?;
+    let mut client = client_with(alloc, AreaBytes::zeros(alloc)?, &A, "", script)?;
+    begin(alloc, &mut client, course)?;
+    settle(alloc, &mut client, course)
+}
+
+/// Adds an end to those before it, if it is another than the last.
+fn add_end(ends: &mut String, end: &str) -> Result<(), Fail> {
+    if !ends.as_str().ends_with(end) {
+        ends.push_str(end)?;
+    }
+    Ok(())
+}
+
+/// What may become of the bytes that aren't synced: the old ones, the new ones, ones, others.
+pub(super) const TEARS: [Tear; 4] = [Tear::Old, Tear::New, Tear::Byte(0xff), Tear::Byte(0x10)];
+
+/// The ends of losses at these calls, each before and after the call, in order and without repeats.
+pub(super) fn ends_of(
+    alloc: Global,
+    course: &Course,
+    calls: [u64; 2],
+    tear: Tear,
+) -> Result<String, Fail> {
+    let mut ends = String::new(alloc);
+    let [from, to] = calls;
+    for call in from..to {
+        for before in [true, false] {
+            let loss = LossAt { call, before, tear };
+            let end = ended(alloc, course, &[loss], &[])?;
+            add_end(&mut ends, end.as_str())?;
+        }
+    }
+    Ok(ends)
+}
+
+/// The same of calls that fail.
+pub(super) fn ends_of_faults(
+    alloc: Global,
+    course: &Course,
+    calls: [u64; 2],
+) -> Result<String, Fail> {
+    let mut ends = String::new(alloc);
+    let [from, to] = calls;
+    for call in from..to {
+        let end = ended(alloc, course, &[], &[call])?;
+        add_end(&mut ends, end.as_str())?;
+    }
+    Ok(ends)
+}
+
+// The calls of an install at once are: 0 to 4 the mount; 5 to 23 the work folder; 24 to 28 the put of Download, with byte 0 at
+// 27; 29 and 30 its module; 31 to 34 the put of Install: cell, sync, selector, sync; 35 and 36 its module; 37 to 40 the put of
+// Commit; 41 its module; 42 to 45 the put of CommitLeave; 46 to 49 that of Cleanup; 50 its module; 51 to 54 the put of Idle.
+const FIRST_PUT: u64 = 24;
+
+const PUTS: [u64; 2] = [FIRST_PUT, 55];
+
+/// The later a loss comes, the further the update gets.
+const AT_ONCE_ENDS: &str = "none\n1 Idle Kept\n1 Idle Inconsistent\n1 Idle Committed\n";
+
+#[test]
+fn nothing_begins_before_the_first_put(rt: HostRuntime) -> Result<(), Fail> {
+    let calls = [[0, 6], [6, 12], [12, 18], [18, FIRST_PUT]];
+    for (tear, calls) in TEARS.into_iter().zip(calls) {
+        let ends = ends_of(rt.alloc(), &AT_ONCE, calls, tear)?;
+        assert_eq!(rt; ends.as_str(), "none\n");
+    }
+    Ok(())
+}
+
+#[test]
+fn an_update_that_is_cut_off(rt: HostRuntime) -> Result<(), Fail> {
+    for tear in TEARS {
+        let ends = ends_of(rt.alloc(), &AT_ONCE, PUTS, tear)?;
+        assert_eq!(rt; ends.as_str(), AT_ONCE_ENDS);
+    }
+    Ok(())
+}
+
+#[test]
+fn an_update_whose_disk_fails(rt: HostRuntime) -> Result<(), Fail> {
+    let ends = ends_of_faults(rt.alloc(), &AT_ONCE, [0, 29])?;
+    assert_eq!(rt; ends.as_str(), "none\n1 Idle Kept\n");
+    // a child is no call that fails
+    let ends = ends_of_faults(rt.alloc(), &AT_ONCE, [29, 31])?;
+    assert_eq!(rt; ends.as_str(), "1 Idle Committed\n");
+    let ends = ends_of_faults(rt.alloc(), &AT_ONCE, [31, 35])?;
+    assert_eq!(rt; ends.as_str(), "1 Idle Kept\n1 Idle Inconsistent\n");
+    let ends = ends_of_faults(rt.alloc(), &AT_ONCE, [37, 41])?;
+    assert_eq!(rt; ends.as_str(), "1 Idle Inconsistent\n");
+    let ends = ends_of_faults(rt.alloc(), &AT_ONCE, [42, 55])?;
+    assert_eq!(rt; ends.as_str(), "1 Idle Inconsistent\n1 Idle Committed\n");
     Ok(())
 }

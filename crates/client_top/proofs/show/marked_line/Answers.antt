@@ -1,5 +1,5 @@
 use Rattle.std.proofs.Common.{◌∙◌, sym}
-use Rattle.client_top.proofs.Texts.{marked-line, plain-line}
+use Rattle.client_top.proofs.Marks.{marked-line, plain-line}
 use Rattle.client_top.proofs.show.marked_line.Goals as goal
 
 pub returns-then-is_artifact_name : goal.returns-then-is_artifact_name

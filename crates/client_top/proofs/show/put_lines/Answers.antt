@@ -4,7 +4,7 @@ use Rattle.std.proofs.lemmas.List.{take_all}
 use Rattle.io_model.specs.Sink.{Writes, WritesFront}
 use Rattle.client_top.specs.Texts.{line, mark_if}
 use Rattle.client_top.specs.Waiting.{IsAhead}
-use Rattle.client_top.proofs.Texts.{ahead-nothing, ahead-more, ahead-stop, ahead-done, ahead-failed}
+use Rattle.client_top.proofs.Marks.{ahead-nothing, ahead-more, ahead-stop, ahead-done, ahead-failed}
 use Rattle.client_top.proofs.show.put_lines.Goals as goal
 
 pub loop-i-init : goal.loop-i-init

@@ -1,5 +1,0 @@
-use Rattle.client_top.proofs.Texts.{shown-broken}
-use Rattle.client_top.proofs.show.show_entry.Goals as goal
-
-pub returns-in-Inconsistent : goal.returns-in-Inconsistent
-returns-in-Inconsistent g c = rw (c.in-Inconsistent.is, shown-broken c.args.entry.now.new c.put_lines-in-Inconsistent.ensures.map) c.put_lines-in-Inconsistent.ensures.lines
