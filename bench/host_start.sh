@@ -31,8 +31,10 @@ fresh
 "$program" show-provides <&- >&- 2>&-
 told "closed streams" "$?" 0
 told "leave the store alone" "$(zeros)" zeros
-"$program" words that are none > out
+"$program" words that are none > out 2> err
 wrong=$?
+told "wrong words" "$wrong $(cat out)" "9 usage 2 0"
+told "list the forms on standard error" "$(head -n 1 err) $(wc -l < err)" "client_cli [--data DIR] COMMAND, where COMMAND is one of 9"
 "$program" words that are none >&- 2>&-
 told "wrong words with closed streams" "$?" "$wrong"
 told "leave the store alone" "$(zeros)" zeros
@@ -40,7 +42,7 @@ told "nothing else was made" "$(ls mender-data | tr '\n' ' ')" "device_type stor
 
 "$program" words that are none > /dev/full 2> err
 told "a full standard output" "$? $(cat err)" "8 "
-"$program" words that are none | true
+"$program" words that are none 2> err | true
 told "nobody reads" "$?" 0
 
 fresh

@@ -23,6 +23,17 @@ use upd_text::{CallList, Name, NoMemory};
 /// The data folder where the words name none, in the folder where the program is started.
 const FOLDER: &str = "mender-data";
 
+/// The forms of the command line, which standard error lists for words that are none of them.
+const FORMS: &str = "client_cli [--data DIR] COMMAND, where COMMAND is one of
+    install TREE
+    check TREE
+    resume [--stop-before ArtifactCommit]
+    commit
+    rollback
+    show-provides
+    show-artifact
+    show-deployment";
+
 /// Words that are no command need no device of the host: they are told over one in memory.
 fn plain_device(alloc: Global) -> Result<MemDevice, NoMemory>
     ensures { IfOk result (λ d. IsNew (state_of d)) }
@@ -110,6 +121,13 @@ fn obey<R: Files<File = File> + Processes + Clock + Drop, O: Sink>(
     }
 }
 
+/// Lists the forms on standard error where the words are none of them. What can't be written there is let go.
+fn list_forms<R: Eprint>(rt: &R, status: &Status) {
+    if let Status::Usage(_) = status {
+        let _ = eprintln!(rt; "{FORMS}");
+    }
+}
+
 fn main(rt: HostRuntime) -> ExitCode {
     let Ok(_streams) = fill_streams(&rt) else {
         return cannot_start(&rt, HostFault::NoStore);
@@ -120,7 +138,10 @@ fn main(rt: HostRuntime) -> ExitCode {
     };
     let mut out = HostSink::new(&rt);
     match obey(&rt, alloc, words.as_slice(), &mut out) {
-        Ok(status) => ExitCode::from(status.number()),
+        Ok(status) => {
+            list_forms(&rt, &status);
+            ExitCode::from(status.number())
+        }
         Err(fault) => cannot_start(&rt, fault),
     }
 }
