@@ -1,0 +1,12 @@
+pub mod Ends
+pub mod Tallies
+pub mod Devices
+pub mod OneBoot
+pub mod Rows
+pub mod Drawing
+pub mod Payloads
+pub mod Cutting
+pub mod Resuming
+pub mod Begins
+pub mod Holdings
+pub mod Zeros

@@ -1,0 +1,59 @@
+//! Laws of boots and of scripts.
+
+ghost use Rattle.std.specs.Prelude.{◌≡◌, ◌≢◌, ℕ, ◌+◌, ◌-◌, ◌^◌, ◌<◌, ◌≤◌, List, [], All, length, replicate, Some};
+ghost use Rattle.device_model.specs.declared.calls.Event.{Event};
+ghost use Rattle.io_model.specs.Source.{Content};
+ghost use Rattle.io_model.specs.Source.Content.{Told};
+ghost use Rattle.io_model.specs.MemSource.{Shelf};
+ghost use Rattle.device_model.specs.Disk.{Disk, unmarked};
+ghost use Rattle.slot_store.specs.Slots.{May};
+ghost use Rattle.device_mem.specs.MemState.{MemState};
+ghost use Rattle.client_words.specs.declared.command.Command.{Command};
+ghost use Rattle.script_names.specs.declared.site.Site.{Site};
+ghost use Rattle.flow_table.specs.declared.position.State.TheVariants.{Idle};
+ghost use Rattle.flow_table.specs.Bound.{Nearer};
+ghost use Rattle.record_codec.specs.declared.entry.Db.{Db};
+ghost use Rattle.record_codec.specs.declared.entry.Db.TheVariants.{Empty};
+ghost use Rattle.record_codec.specs.Held.{held, position_of};
+ghost use Rattle.device_mem.specs.declared.script.Script.{Script};
+ghost use Rattle.device_mem.specs.Fits.{Fits};
+ghost use Rattle.device_mem.specs.Losses.{count_losses};
+ghost use Rattle.lab.specs.declared.runs.BootRun.{BootRun as Run};
+ghost use Rattle.lab.specs.Bound.{IsResume};
+ghost use Rattle.lab.specs.Path.{Step, Path};
+ghost use Rattle.lab.specs.Campaign.{Campaigned};
+ghost use Rattle.lab.specs.Holding.{HeldAfter};
+ghost use Rattle.lab.specs.Cuts.{cuts_between};
+
+use device_model::AREA;
+
+/// What is held after boots in a row from the empty database: nothing; or what a deployment provides that some boot began, all
+/// of whose modules were called to commit in a boot of it, and exited 0; or that, marked, where in a boot of it the old and
+/// the new were mixed, for one of the causes. So it is of whatever may stand after a campaign on an area of zeros.
+pub fn the_old_or_the_new_is_held()
+    ensures paths { (site : Site) (content : Content) (d : Db) (runs : List Run) → Path site content Empty runs d
+        → HeldAfter site content runs (held d) }
+    ensures campaigns { (site : Site) (boots : List Command) (old new : MemState) (source source_after : Shelf) (runs : List Run) (disk : Disk)
+        → Campaigned site boots old new source source_after runs → old.device.disk ≡ Some disk
+        → disk.area ≡ replicate AREA 0 → disk.unsynced ≡ unmarked disk.unsynced
+        → (d : Db) → May new.device.disk d → HeldAfter site (Told source.tree) runs (held d) }
+{}
+
+/// A resume that finds a deployment which hasn't ended, and that no loss, no fault and no want of memory hinders, ends it or
+/// enters more states than were entered before, of which there are at most 28. So after a position with `n`, 29 - `n` such
+/// resumes end the deployment.
+pub fn resumes_end_a_deployment()
+    ensures nearer { (site : Site) (content : Content) (c d : Db) (run : Run) → Step site content c run d → IsResume run
+        → (position_of c).state ≢ Idle → Nearer (position_of c) (position_of d) }
+    ensures bound { (site : Site) (content : Content) (c d : Db) (runs : List Run) → Path site content c runs d
+        → All (λ r. IsResume r) runs → (position_of c).n ≤ 28 → 29 ≤ length runs + (position_of c).n
+        → (position_of d).state ≡ Idle }
+{}
+
+/// Where a script plans no loss but its cuts, each loss takes a cut of its own: of the cuts of the children that were started
+/// there are at least as many as losses. So over all boots there are at most as many losses as cuts.
+pub fn losses_come_from_cuts()
+    ensures losses { (script : Script) (t s : ℕ) (events : List Event) (t' s' : ℕ) → script.losses ≡ [] → s' < 2 ^ 64 - 1
+        → Fits script t s events t' s' → count_losses events ≤ cuts_between s s' script.cuts }
+    ensures most { (s s' : ℕ) (cuts : List ℕ) → cuts_between s s' cuts ≤ length cuts }
+{}

@@ -1,0 +1,17 @@
+//! Boots in a row on a device in memory, and what a seed draws for them.
+#![tactic(auto)]
+
+mod boots;
+mod draws;
+mod laws;
+mod runs;
+mod tree;
+
+pub use boots::campaign;
+pub use draws::{Generator, Round};
+pub use laws::{losses_come_from_cuts, resumes_end_a_deployment, the_old_or_the_new_is_held};
+pub use runs::{BootRun, CommandList, Runs};
+pub use tree::tree_of;
+
+#[cfg(test)]
+mod tests;
