@@ -1,5 +1,5 @@
 -- A place in memory, and what each of its calls answers and leaves, exactly.
-use Rattle.std.specs.Prelude.{◌≡◌, ℕ, ◌+◌, ◌==◌, nat_le, Bool, true, false, List, [], length, find, if◌then◌else◌, Option, Some, None, Result, IsOk, IsErrOf, MatchBool}
+use Rattle.std.specs.Prelude.{◌≡◌, ◌≢◌, ⊤, ℕ, ◌+◌, ◌==◌, nat_le, Bool, true, false, List, [], length, find, if◌then◌else◌, Option, Some, None, Result, IsOk, IsErrOf, MatchBool}
 use Rattle.std.specs.List.{list_any}
 use Rattle.std.specs.Option.{option_map_or}
 use Rattle.upd_text.specs.Counts.{counted}
@@ -10,7 +10,10 @@ use Rattle.device_mem.specs.declared.script.Tear.{Tear}
 use Rattle.device_mem.specs.declared.script.Tear.TheVariants.{Old, New, Byte}
 use Rattle.file_module.specs.declared.moment.Moment.{Moment}
 use Rattle.file_module.specs.declared.moment.Moment.TheVariants.{Fine, Fails, Loses}
-use Rattle.file_module.specs.Contents.{Contents, with_append}
+use Rattle.file_module.specs.declared.mem_place.Effect.{Effect}
+use Rattle.file_module.specs.declared.mem_place.Effect.TheVariants.{Nothing, Start, Settle, Move, Remove}
+use Rattle.file_module.specs.declared.place.Slot.TheVariants as Slot
+use Rattle.file_module.specs.Contents.{Contents, with_append, with_start, with_settle, with_move, with_remove}
 use Rattle.file_module.specs.Calls.{failed}
 
 pub record MemShelf : Type 0 where
@@ -44,6 +47,19 @@ called m = record m { calls = counted m.calls }
 -- this is done to the place
 abbrev pub with_place : (Contents → Contents) → MemShelf → MemShelf
 with_place change m = record m { place = change m.place }
+
+-- what a call does, where it is done
+abbrev pub with_effect : Effect → Contents → Contents
+with_effect Nothing m = m
+with_effect Start m = with_start m
+with_effect Settle m = with_settle m
+with_effect (Move slot) m = with_move slot m
+with_effect (Remove slot) m = with_remove slot m
+
+-- the fresh content moves into another slot
+abbrev pub CanHappen : Effect → Type 0
+CanHappen (Move slot) = slot ≢ Slot.Fresh
+CanHappen _ = ⊤
 
 -- what a loss makes of a fresh content that isn't settled
 abbrev pub torn_fresh : Tear → Bool → Option (List ℕ) → Option (List ℕ)

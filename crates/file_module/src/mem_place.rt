@@ -4,7 +4,7 @@ ghost use Rattle.std.specs.Prelude.{◌≡◌, ◌≢◌, ◌≤◌, ◌+◌, tr
 ghost use Rattle.upd_text.specs.Counts.{counted};
 ghost use Rattle.file_module.specs.Contents.{content, with_content, InContent, IsThere, WhenTold, with_start, with_append, with_settle, with_move, with_remove};
 ghost use Rattle.file_module.specs.Calls.{EndsWhole, EndsFresh, Reads, Gives, Loses, failed};
-ghost use Rattle.file_module.specs.MemShelf.{empty_shelf, next_moment, called, with_place, with_append_if, torn, lost, fits, Acts, Appends};
+ghost use Rattle.file_module.specs.MemShelf.{empty_shelf, next_moment, called, with_place, with_effect, CanHappen, with_append_if, torn, lost, fits, Acts, Appends};
 
 use crate::held::Held;
 use crate::moment::{Moment, moment_at};
@@ -46,6 +46,16 @@ impl Model for MemPlace {
     } };
 
     ghost invariant = { λ m. (m.target.room ≡ m.room) × ((m.saved.room ≡ m.room) × (m.fresh.room ≡ m.room)) };
+}
+
+/// What a call does, where it is done.
+#[derive(Clone, Copy)]
+enum Effect {
+    Nothing,
+    Start,
+    Settle,
+    Move(Slot),
+    Remove(Slot),
 }
 
 fn count_one(count: u64) -> u64
@@ -203,6 +213,50 @@ impl MemPlace {
         self.settled = true;
     }
 
+    fn apply(&mut self, effect: Effect)
+        requires { CanHappen effect }
+        ensures { self.new ≡ with_place (with_effect effect) self.old }
+    {
+        match effect {
+            Effect::Nothing => {}
+            Effect::Start => self.begin(),
+            Effect::Settle => self.settled = true,
+            Effect::Move(slot) => self.put_in(slot),
+            Effect::Remove(slot) => self.clear(slot),
+        }
+    }
+
+    /// One call with this effect, by what is planned for its number.
+    fn act(&mut self, effect: Effect) -> Result<(), Down>
+        requires { CanHappen effect }
+        ensures told { self.old.place.told ≡ true }
+        ensures ends { EndsWhole (with_effect effect) self.old.place result self.new.place }
+        ensures exact { Acts (with_place (with_effect effect)) self.old result self.new }
+    {
+        if !self.on {
+            return Err(Down::Off);
+        }
+        match self.count_call() {
+            Moment::Loses(loss) => {
+                if loss.before {
+                    self.lose(loss.tear);
+                } else {
+                    self.apply(effect);
+                    self.lose(loss.tear);
+                }
+                Err(Down::Off)
+            }
+            Moment::Fails => {
+                self.fail();
+                Err(Down::Fault)
+            }
+            Moment::Fine => {
+                self.apply(effect);
+                Ok(())
+            }
+        }
+    }
+
     fn size(&self, slot: Slot) -> Option<u64>
         ensures { result ≡ option_map length (content slot self.now.place) }
     {
@@ -232,19 +286,9 @@ impl Place for MemPlace {
         ensures value { IfOk result (λ n. WhenTold self.old.place (n ≡ option_map length (content slot self.old.place))) }
         ensures exact { Acts (λ m. m) self.old result self.new }
     {
-        if !self.on {
-            return Err(Down::Off);
-        }
-        match self.count_call() {
-            Moment::Loses(loss) => {
-                self.lose(loss.tear);
-                Err(Down::Off)
-            }
-            Moment::Fails => {
-                self.fail();
-                Err(Down::Fault)
-            }
-            Moment::Fine => Ok(self.size(slot)),
+        match self.act(Effect::Nothing) {
+            Ok(()) => Ok(self.size(slot)),
+            Err(down) => Err(down),
         }
     }
 
@@ -255,51 +299,21 @@ impl Place for MemPlace {
         ensures bytes { WhenTold self.old.place (Reads (content slot self.old.place) at into.new result) }
         ensures exact { Acts (λ m. m) self.old result self.new }
     {
-        if !self.on {
-            return Err(Down::Off);
-        }
-        match self.count_call() {
-            Moment::Loses(loss) => {
-                self.lose(loss.tear);
-                Err(Down::Off)
-            }
-            Moment::Fails => {
-                self.fail();
-                Err(Down::Fault)
-            }
-            Moment::Fine => {
+        match self.act(Effect::Nothing) {
+            Ok(()) => {
                 self.copy_out(slot, at, into);
                 Ok(())
             }
+            Err(down) => Err(down),
         }
     }
 
+    #[tactic(auto, using(crate::proofs::Losing::whole_is_fresh))]
     fn start(&mut self) -> Result<(), Down>
         ensures ends { EndsFresh with_start self.old.place result self.new.place }
         ensures exact { Acts (with_place with_start) self.old result self.new }
     {
-        if !self.on {
-            return Err(Down::Off);
-        }
-        match self.count_call() {
-            Moment::Loses(loss) => {
-                if loss.before {
-                    self.lose(loss.tear);
-                } else {
-                    self.begin();
-                    self.lose(loss.tear);
-                }
-                Err(Down::Off)
-            }
-            Moment::Fails => {
-                self.fail();
-                Err(Down::Fault)
-            }
-            Moment::Fine => {
-                self.begin();
-                Ok(())
-            }
-        }
+        self.act(Effect::Start)
     }
 
     fn append(&mut self, bytes: &[u8]) -> Result<(), Down>
@@ -336,32 +350,12 @@ impl Place for MemPlace {
         }
     }
 
+    #[tactic(auto, using(crate::proofs::Losing::whole_is_fresh))]
     fn settle(&mut self) -> Result<(), Down>
         ensures ends { EndsFresh with_settle self.old.place result self.new.place }
         ensures exact { Acts (with_place with_settle) self.old result self.new }
     {
-        if !self.on {
-            return Err(Down::Off);
-        }
-        match self.count_call() {
-            Moment::Loses(loss) => {
-                if loss.before {
-                    self.lose(loss.tear);
-                } else {
-                    self.settled = true;
-                    self.lose(loss.tear);
-                }
-                Err(Down::Off)
-            }
-            Moment::Fails => {
-                self.fail();
-                Err(Down::Fault)
-            }
-            Moment::Fine => {
-                self.settled = true;
-                Ok(())
-            }
-        }
+        self.act(Effect::Settle)
     }
 
     fn move_to(&mut self, slot: Slot) -> Result<(), Down>
@@ -371,55 +365,13 @@ impl Place for MemPlace {
         ensures ends { EndsWhole (with_move slot) self.old.place result self.new.place }
         ensures exact { Acts (with_place (with_move slot)) self.old result self.new }
     {
-        if !self.on {
-            return Err(Down::Off);
-        }
-        match self.count_call() {
-            Moment::Loses(loss) => {
-                if loss.before {
-                    self.lose(loss.tear);
-                } else {
-                    self.put_in(slot);
-                    self.lose(loss.tear);
-                }
-                Err(Down::Off)
-            }
-            Moment::Fails => {
-                self.fail();
-                Err(Down::Fault)
-            }
-            Moment::Fine => {
-                self.put_in(slot);
-                Ok(())
-            }
-        }
+        self.act(Effect::Move(slot))
     }
 
     fn remove(&mut self, slot: Slot) -> Result<(), Down>
         ensures ends { EndsWhole (with_remove slot) self.old.place result self.new.place }
         ensures exact { Acts (with_place (with_remove slot)) self.old result self.new }
     {
-        if !self.on {
-            return Err(Down::Off);
-        }
-        match self.count_call() {
-            Moment::Loses(loss) => {
-                if loss.before {
-                    self.lose(loss.tear);
-                } else {
-                    self.clear(slot);
-                    self.lose(loss.tear);
-                }
-                Err(Down::Off)
-            }
-            Moment::Fails => {
-                self.fail();
-                Err(Down::Fault)
-            }
-            Moment::Fine => {
-                self.clear(slot);
-                Ok(())
-            }
-        }
+        self.act(Effect::Remove(slot))
     }
 }
