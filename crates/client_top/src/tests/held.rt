@@ -1,10 +1,10 @@
 //! What an update begins over a database, and what it leaves of it.
 
 use super::artifact::{A, File, Tree};
-use super::rows::{COMMITTED, FIRST, NEW, NO_REBOOT};
-use super::stored::{FULL, OLD_RECORD, OVERFULL, SLOT_0, area_of, long_record, old_area};
+use super::rows::{COMMITTED, FIRST};
+use super::stored::{FULL, OVERFULL, SLOT_0, area_of, long_record, old_area};
 use super::trees::DAMAGED;
-use super::{Client, Row, Told, client_over, played, wanted};
+use super::{Row, Told, client_over, played, wanted};
 use std::alloc::Global;
 use std::test::Fail;
 
@@ -141,15 +141,6 @@ fn a_record_has_a_limit(rt: HostRuntime) -> Result<(), Fail> {
     );
     Ok(())
 }
-
-/// Tree A, if `app.version` is 2.
-const WANTS: Tree<'static> = Tree {
-    changes: &[(
-        "header/headers/0000/type-info",
-        b"{\"type\":\"single-file\",\"artifact_depends\":{\"app.version\":\"2\"}}",
-    )],
-    ..A
-};
 
 /// The number of a deployment follows that of the one before, and 65,535 is the last.
 #[test]

@@ -1,11 +1,7 @@
 //! Trees whose metadata is refused, and hostile ones.
 
-use super::artifact::{A, File, Tree, add_file};
-use super::rows::NO_REBOOT;
-use super::trees::{answered, answers, refused};
-use super::{listed, plain_client};
-use io_model::{FileList, MemSource};
-use std::alloc::Global;
+use super::artifact::{A, File, Tree};
+use super::trees::{answered, refused};
 use std::test::Fail;
 
 const HEADER_PATH: &str = "header/header-info";
@@ -123,39 +119,4 @@ fn hostile_paths_are_refused(rt: HostRuntime) -> Result<(), Fail> {
         assert_eq!(rt; found, refused(rt.alloc(), text)?);
     }
     Ok(())
-}
-
-/// The answers to a source of these files.
-fn answered_files(alloc: Global, files: FileList) -> Result<String, Fail> {
-    let mut client = plain_client(alloc, &NO_REBOOT)?;
-    client.source = MemSource::new(files, listed(alloc, &[])?);
-    answers(alloc, &mut client)
-}
-
-/// A tree of so many files, none of which counts.
-fn crowd(alloc: Global, count: u32) -> Result<FileList, Fail> {
-    let mut files = FileList::new(alloc);
-    for _ in 0..count {
-        add_file(&mut files, "x", b"")?;
-    }
-    Ok(files)
-}
-
-/// The names of scripts of the artifact.
-fn script_paths(alloc: Global, count: u32) -> Result<Vec<String>, Fail> {
-    let mut paths = Vec::new(alloc);
-    for i in 0..count {
-        paths.push(format!(in alloc; "header/scripts/ArtifactCommit_Leave_{i:02}")?)?;
-    }
-    Ok(paths)
-}
-
-/// The answers to tree A with so many scripts.
-fn answered_scripts(alloc: Global, count: u32) -> Result<String, Fail> {
-    let paths = script_paths(alloc, count)?;
-    let mut changes: Vec<File<'_>> = Vec::new(alloc);
-    for path in &paths {
-        changes.push((path.as_str(), b"exit 0"))?;
-    }
-    answered(alloc, &with(&changes))
 }

@@ -177,11 +177,6 @@ fn an_update_is_kept_in_the_store(rt: HostRuntime) -> Result<(), Fail> {
     Ok(())
 }
 
-/// Whether these bytes of the area are zeros.
-fn are_zeros(area: &[u8], from: usize, to: usize) -> Option<bool> {
-    Some(area.get(from..to)?.iter().all(|byte| *byte == 0))
-}
-
 const WAITS: Row = Row {
     children: UNDOABLE,
     ..FIRST

@@ -2,7 +2,7 @@
 
 use super::artifact::A;
 use super::rows::{MIXED, NEW};
-use super::stored::{LARGEST, SLOT_0, SLOT_1, area_of, long_record, old_area};
+use super::stored::{LARGEST, SLOT_0, area_of, long_record, old_area};
 use super::{Client, client_over, listed};
 use device_mem::AreaBytes;
 use io_model::MemSink;
@@ -123,12 +123,6 @@ fn the_outcome_decides_what_is_held(rt: HostRuntime) -> Result<(), Fail> {
     }
     Ok(())
 }
-
-/// The record of version 1 with its two new pairs exchanged.
-const EXCHANGED: [u8; 75] = *b"MUP1\x00\x02\x00\x00\x05\x00\x00\x00\x00\x00\x00\x4b\
-\x00\x00\
-\x00\x02\x00\x0dartifact_name\x00\x09release-2\x00\x0bapp.version\x00\x012\
-\x0bsingle-file\x00";
 
 /// An area with some bytes of the old record changed.
 fn spoilt(alloc: Global, at: u32, byte: u8) -> Result<AreaBytes, Fail> {
