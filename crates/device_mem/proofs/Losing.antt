@@ -12,23 +12,25 @@ use Rattle.device_model.proofs.Refilled.{refilled_wider, length-overwritten, ove
 rest_after : (old mid new : State) → mid ≡ record old { disk = mid.disk } → new ≡ record mid { on = false; disk = new.disk; work = option_map work_lost mid.work; journal = mid.journal ++ Loss ∷ []; room = mid.room - 1; losses = counted mid.losses } → new ≡ record old { on = false; disk = new.disk; work = option_map work_lost old.work; journal = old.journal ++ Loss ∷ []; room = old.room - 1; losses = counted old.losses }
 rest_after old mid new is l = l ∙ ap (λ (s : State). record s { on = false; disk = new.disk; work = option_map work_lost s.work; journal = s.journal ++ Loss ∷ []; room = s.room - 1; losses = counted s.losses }) is
 
-after_synced : (old new : Option Disk) → WhereTold (IsTorn 0 0) (option_map synced old) new → WhereTold (IsTorn 0 0) old new
-after_synced None None h = tt
-after_synced None (Some n) h = absurd h
-after_synced (Some o) None h = absurd h
-after_synced (Some o) (Some n) h = record {
+-- a disk that is torn once it was synced
+pub torn_synced : (old new : Option Disk) → WhereTold (IsTorn 0 0) (option_map synced old) new → WhereTold (IsTorn 0 0) old new
+torn_synced None None h = tt
+torn_synced None (Some n) h = absurd h
+torn_synced (Some o) None h = absurd h
+torn_synced (Some o) (Some n) h = record {
   area = refilled_wider (λ i. IsSynced (unmarked o.unsynced) i × IsApart 0 0 i) (λ i. IsSynced o.unsynced i × IsApart 0 0 i) o.area n.area (λ i out. (unmarked_synced o.unsynced i, out.1)) h.area;
   unsynced = h.unsynced ∙ ap (λ (n : ℕ). replicate n false) (length-replicate (length o.unsynced) false);
 }
 
 pub lost_synced : (old new : State) → LosesPower 0 0 (after_sync old) new → LosesPower 0 0 old new
-lost_synced old new l = record { rest = rest_after old (after_sync old) new refl l.rest; disk = after_synced old.disk new.disk l.disk }
+lost_synced old new l = record { rest = rest_after old (after_sync old) new refl l.rest; disk = torn_synced old.disk new.disk l.disk }
 
-after : (at : ℕ) (bytes : List ℕ) → at + length bytes ≤ 266240 → (old new : Option Disk) → IsWhole 266240 old → WhereTold (IsTorn 0 0) (option_map (written at bytes) old) new → WhereTold (IsTorn at (length bytes)) old new
-after at bytes fits None None w h = tt
-after at bytes fits None (Some n) w h = absurd h
-after at bytes fits (Some o) None w h = absurd h
-after at bytes fits (Some o) (Some n) w h =
+-- a disk of this size that is torn once it was written
+pub torn_written : (size at : ℕ) (bytes : List ℕ) → at + length bytes ≤ size → (old new : Option Disk) → IsWhole size old → WhereTold (IsTorn 0 0) (option_map (written at bytes) old) new → WhereTold (IsTorn at (length bytes)) old new
+torn_written size at bytes fits None None w h = tt
+torn_written size at bytes fits None (Some n) w h = absurd h
+torn_written size at bytes fits (Some o) None w h = absurd h
+torn_written size at bytes fits (Some o) (Some n) w h =
     let fits_area : at + length bytes ≤ length o.area = omega (arith, w.size) in
     let fits_flags : at + length bytes ≤ length o.unsynced = omega (arith, w.flags) in
     let count : length (replicate (length bytes) true) ≡ length bytes = length-replicate (length bytes) true in
@@ -45,4 +47,4 @@ after at bytes fits (Some o) (Some n) w h =
     }
 
 pub lost_written : (at : ℕ) (bytes : List ℕ) → at + length bytes ≤ 266240 → (old new : State) → IsWhole 266240 old.disk → LosesPower 0 0 (after_write at bytes old) new → LosesPower at (length bytes) old new
-lost_written at bytes fits old new w l = record { rest = rest_after old (after_write at bytes old) new refl l.rest; disk = after at bytes fits old.disk new.disk w l.disk }
+lost_written at bytes fits old new w l = record { rest = rest_after old (after_write at bytes old) new refl l.rest; disk = torn_written 266240 at bytes fits old.disk new.disk w l.disk }

@@ -11,11 +11,12 @@ use Rattle.device_model.specs.declared.calls.Event.TheVariants.{Pause, Loss}
 use Rattle.device_model.specs.declared.calls.Ran.{Ran}
 use Rattle.device_model.specs.declared.calls.Ran.TheVariants as ran
 use Rattle.device_model.specs.State.{with_events}
-use Rattle.device_mem.specs.declared.script.Moment.{Moment}
-use Rattle.device_mem.specs.declared.script.Moment.TheVariants.{Fine, Fails, Loses}
+use Rattle.device_mem.specs.declared.moment.Moment.{Moment}
+use Rattle.device_mem.specs.declared.moment.Moment.TheVariants.{Fine, Fails, Loses}
 use Rattle.device_mem.specs.declared.script.Tear.TheVariants.{New}
+use Rattle.device_mem.specs.Moment.{moment_at}
 use Rattle.device_mem.specs.MemState.{MemState, called, with_device, failing, starving, lost, with_end, lost_child}
-use Rattle.device_mem.specs.Script.{moment_at, is_cut, end_of}
+use Rattle.device_mem.specs.Script.{is_cut, end_of}
 
 -- A call of the disk or of the work folder does its work, fails, or loses power before its work or after it.
 abbrev pub ActsAt : {T : Type 0} → Moment → (done failed : MemState → MemState) → MemState → Result T Down → MemState → Type 0
@@ -27,7 +28,7 @@ ActsAt (Loses loss) done failed m result new = IsErrOf result Off × (new ≡ lo
 abbrev pub Acts : {T : Type 0} → (done failed : MemState → MemState) → MemState → Result T Down → MemState → Type 0
 Acts done failed old result new =
     MatchBool old.device.on
-    (ActsAt (moment_at old.plan.script old.calls) done failed (called old) result new)
+    (ActsAt (moment_at old.plan.script.losses old.plan.script.faults old.calls) done failed (called old) result new)
     (IsErrOf result Off × (new ≡ old))
 
 -- as ActsAt, but that there may be no memory for the work
@@ -41,7 +42,7 @@ GrowsAt (Loses loss) done failed m result new = IsErrOf result Off × (new ≡ l
 abbrev pub Grows : {T : Type 0} → (done failed : MemState → MemState) → MemState → Result T Down → MemState → Type 0
 Grows done failed old result new =
     MatchBool old.device.on
-    (GrowsAt (moment_at old.plan.script old.calls) done failed (called old) result new)
+    (GrowsAt (moment_at old.plan.script.losses old.plan.script.faults old.calls) done failed (called old) result new)
     (IsErrOf result Off × (new ≡ old))
 
 -- A child ends with this answer. It loses power where a loss is planned for the call, or else a cut for the child.
@@ -57,7 +58,7 @@ Ends call gives off old result new =
     let script = old.plan.script in
     let answer = end_of script old.taken call in
     MatchBool old.device.on
-    (EndsAt (moment_at script old.calls) (is_cut script old.started) call answer (gives answer) off (called old) result new)
+    (EndsAt (moment_at script.losses script.faults old.calls) (is_cut script old.started) call answer (gives answer) off (called old) result new)
     ((result ≡ off) × (new ≡ old))
 
 -- how a child that is no question ended, by the answer that it took
@@ -87,5 +88,5 @@ PausesAt (Loses loss) done m result new = IsErr result × (new ≡ lost (Loss �
 abbrev pub Pauses : {T E : Type 0} → ℕ → MemState → Result T E → MemState → Type 0
 Pauses seconds old result new =
     MatchBool old.device.on
-    (PausesAt (moment_at old.plan.script old.calls) (with_device (with_events (Pause seconds ∷ []))) (called old) result new)
+    (PausesAt (moment_at old.plan.script.losses old.plan.script.faults old.calls) (with_device (with_events (Pause seconds ∷ []))) (called old) result new)
     (IsErr result × (new ≡ old))

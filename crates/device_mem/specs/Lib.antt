@@ -5,6 +5,7 @@ pub mod Log
 pub mod Losses
 pub mod Mem
 pub mod MemState
+pub mod Moment
 pub mod Parts
 pub mod Script
 pub mod Tears

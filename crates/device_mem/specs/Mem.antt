@@ -1,5 +1,7 @@
 -- What a device in memory means.
 use Rattle.std.specs.Prelude.{Some}
+use Rattle.std.proofs.Common.{◌∙◌}
+use Rattle.device_model.specs.Disk.{IsWhole}
 use Rattle.device_model.specs.State.{State}
 use Rattle.device_mem.specs.declared.device.MemDevice.{MemDevice}
 use Rattle.device_mem.specs.declared.script.Plan.{Plan}
@@ -21,6 +23,10 @@ state_of m = record {
 -- its script, and how far it was taken when power came on last
 abbrev pub plan_of : MemDevice → Plan
 plan_of m = m.log.plan
+
+-- its type keeps that its area is whole
+pub is_whole : (m : MemDevice) → IsWhole 266240 (state_of m).disk
+is_whole m = record { size = m.area_is; bytes = m.disk.bytes; flags = m.disk.unsynced_is ∙ m.area_is }
 
 -- all that it means
 abbrev pub mem_of : MemDevice → MemState

@@ -1,5 +1,5 @@
--- What a script says of a call.
-use Rattle.std.specs.Prelude.{◌≡◌, ℕ, ◌+◌, ◌-◌, min, Bool, ◌==◌, [], length, slice_get, unwrap_or, find, Option, Some, None, if◌then◌else◌, ⊤}
+-- What a script says of a child.
+use Rattle.std.specs.Prelude.{ℕ, ◌+◌, ◌-◌, min, Bool, ◌==◌, [], length, slice_get, unwrap_or, if◌then◌else◌}
 use Rattle.std.specs.List.{list_any}
 use Rattle.device_model.specs.declared.calls.Answer.{Answer}
 use Rattle.device_model.specs.declared.calls.Answer.TheVariants.{Exit, Reply, NotStarted}
@@ -8,27 +8,10 @@ use Rattle.device_model.specs.declared.calls.Query.TheVariants.{SupportsRollback
 use Rattle.device_model.specs.declared.calls.Call.{Call}
 use Rattle.device_model.specs.declared.calls.Call.TheVariants as call
 use Rattle.device_mem.specs.declared.script.Script.{Script}
-use Rattle.device_mem.specs.declared.script.LossAt.{LossAt}
-use Rattle.device_mem.specs.declared.script.Moment.{Moment}
-use Rattle.device_mem.specs.declared.script.Moment.TheVariants.{Fine, Fails, Loses}
 use Rattle.device_mem.specs.declared.script.Ending.{Ending}
 use Rattle.device_mem.specs.declared.script.Ending.TheVariants as ending
 use Rattle.device_mem.specs.declared.script.Replying.{Replying}
 use Rattle.device_mem.specs.declared.script.Replying.TheVariants as replying
-
-abbrev pub moment_by : Option LossAt → Bool → Moment
-moment_by (Some loss) fails = Loses loss
-moment_by None fails = if fails then Fails else Fine
-
--- what the call with this number meets: the first loss that is planned for it, else a fault that is, else nothing
-abbrev pub moment_at : Script → ℕ → Moment
-moment_at script n = moment_by (find (λ loss. loss.call == n) script.losses) (list_any (λ k. k == n) script.faults)
-
--- a loss and a fault come only from a script that plans some
-abbrev pub IsPlanned : Script → Moment → Type 0
-IsPlanned script (Loses loss) = script.losses ≡ [] → ⊥
-IsPlanned script Fails = script.faults ≡ [] → ⊥
-IsPlanned script Fine = ⊤
 
 -- the child with this number loses its power
 abbrev pub is_cut : Script → ℕ → Bool

@@ -3,6 +3,7 @@
 ghost use Rattle.std.specs.Prelude.{◌≡◌, ◌+◌, ◌≤◌, length, replicate, IfOk, All};
 ghost use Rattle.device_model.specs.Disk.{overwritten, IsByte};
 
+use crate::bytes::zeros;
 use device_model::AREA;
 use std::alloc::Global;
 use std::marker::Model;
@@ -60,12 +61,4 @@ impl AreaBytes {
     {
         self.bytes
     }
-}
-
-fn zeros(alloc: Global, count: usize) -> Result<Vec<u8>, NoMemory>
-    ensures zeros { IfOk result (λ v. v.items ≡ replicate count 0) }
-    ensures size { IfOk result (λ v. length v.items ≡ count) }
-    ensures small { IfOk result (λ v. All IsByte v.items) }
-{
-    Ok(vec![in alloc; 0u8; count]?)
 }

@@ -1,10 +1,20 @@
 //! What is done to the bytes of a disk, and to the flags that say which of them may be lost.
 
-ghost use Rattle.std.specs.Prelude.{◌≡◌, ◌+◌, ◌≤◌, length};
+ghost use Rattle.std.specs.Prelude.{◌≡◌, ◌+◌, ◌≤◌, length, replicate, IfOk, All};
 ghost use Rattle.device_mem.specs.Tears.{torn_area};
-ghost use Rattle.device_model.specs.Disk.{IsRefilled, IsSynced, overwritten, marked, unmarked};
+ghost use Rattle.device_model.specs.Disk.{IsByte, IsRefilled, IsSynced, overwritten, marked, unmarked};
 
 use crate::script::Tear;
+use std::alloc::Global;
+use upd_text::NoMemory;
+
+pub(crate) fn zeros(alloc: Global, count: usize) -> Result<Vec<u8>, NoMemory>
+    ensures zeros { IfOk result (λ v. v.items ≡ replicate count 0) }
+    ensures size { IfOk result (λ v. length v.items ≡ count) }
+    ensures small { IfOk result (λ v. All IsByte v.items) }
+{
+    Ok(vec![in alloc; 0u8; count]?)
+}
 
 pub(crate) fn write_at(area: &mut [u8], at: usize, bytes: &[u8])
     requires { at + length bytes.now ≤ length area.old }

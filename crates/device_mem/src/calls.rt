@@ -1,7 +1,8 @@
 //! The calls of a device in memory.
 
 use crate::device::MemDevice;
-use crate::script::{Ending, Moment, Plan, Replying, Tear};
+use crate::moment::Moment;
+use crate::script::{Ending, Plan, Replying, Tear};
 use device_model::{Answer, Asked, Call, Device, Down, Off, Part, Query, Ran};
 use upd_text::Name;
 
@@ -14,13 +15,13 @@ impl Device for MemDevice {
     ghost use Rattle.device_model.specs.State.{EndsRead, EndsWrite, EndsSync, EndsWork, EndsChild, EndsAsk, EndsPause, IsPlain, Reads, after_write, after_work};
     ghost use Rattle.device_mem.specs.MemState.{with_device, with_sync, after_spoil};
     ghost use Rattle.device_mem.specs.Acts.{Acts, Grows, Runs, Asks, Pauses};
-    ghost use Rattle.device_mem.specs.Mem.{mem_of, state_of, plan_of};
+    ghost use Rattle.device_mem.specs.Mem.{mem_of, state_of, plan_of, is_whole};
 
     ghost means = { state_of };
 
     ghost plan = { λ m. Some (plan_of m) };
 
-    ghost whole = { λ m. record { size = m.disk.area_is; bytes = m.disk.bytes; flags = m.disk.unsynced_is } };
+    ghost whole = { is_whole };
 
     fn room(&self) -> u32 {
         self.log.journal.room()
@@ -49,8 +50,7 @@ impl Device for MemDevice {
                 Err(Down::Fault)
             }
             Moment::Fine => {
-                let at = at as usize;
-                into.copy_from_slice(&self.disk.area[at..at + into.len()]);
+                self.disk.read(at as usize, into);
                 Ok(())
             }
         }
@@ -76,12 +76,12 @@ impl Device for MemDevice {
                 Err(Down::Off)
             }
             Moment::Fails => {
-                self.disk.spoil(at, bytes.len());
+                self.disk.spoil(at as usize, bytes.len());
                 self.fault();
                 Err(Down::Fault)
             }
             Moment::Fine => {
-                self.disk.write(at, bytes);
+                self.disk.write(at as usize, bytes);
                 Ok(())
             }
         }

@@ -7,7 +7,8 @@ use crate::area::AreaBytes;
 use crate::disk::MemDisk;
 use crate::folder::MemFolder;
 use crate::log::{MemLog, count_one};
-use crate::script::{Moment, Script, Tear, moment_of};
+use crate::moment::{Moment, moment_at};
+use crate::script::{Script, Tear};
 use crate::work::WorkList;
 use device_model::{Answer, Call, Event, EventList};
 use std::alloc::Global;
@@ -23,6 +24,7 @@ pub struct MemDevice {
     pub(crate) calls: u64,
     pub(crate) faults: u64,
     pub(crate) starved: u64,
+    ghost area_is: { length disk.area.items ≡ 266240 },
     ghost faults_are: { log.plan.script.faults ≡ [] → faults ≡ starved },
 }
 
@@ -30,7 +32,8 @@ impl MemDevice {
     ghost use Rattle.device_model.specs.Disk.{KeepsDisk, area_of};
     ghost use Rattle.device_model.specs.State.{LosesPower, LosesStarted, AfterChild, after_write};
     ghost use Rattle.device_mem.specs.Folders.{given_files};
-    ghost use Rattle.device_mem.specs.Script.{moment_at, IsPlanned, is_cut, end_of};
+    ghost use Rattle.device_mem.specs.Moment.{moment_at, IsPlanned};
+    ghost use Rattle.device_mem.specs.Script.{is_cut, end_of};
     ghost use Rattle.device_mem.specs.Parts.{fresh_disk, fresh_work};
     ghost use Rattle.device_mem.specs.MemState.{FollowsPlan, fresh, powered, failing, starving, lost, lost_child, with_device, with_end, with_sync};
     ghost use Rattle.device_mem.specs.Mem.{mem_of, state_of};
@@ -47,7 +50,7 @@ impl MemDevice {
     {
         Ok(MemDevice {
             on: true,
-            disk: MemDisk::new(alloc, area)?,
+            disk: MemDisk::with_area(alloc, area.into_bytes())?,
             folder: MemFolder::new(alloc),
             log: MemLog::new(alloc, room, script)?,
             calls: 0,
@@ -77,7 +80,7 @@ impl MemDevice {
     pub fn area(&self) -> &[u8]
         ensures { Some result.now ≡ area_of (state_of self.now).disk }
     {
-        &self.disk.area
+        self.disk.area()
     }
 
     /// The files of the work folder as they were at the first start of a child since the last clear. There is none where no
@@ -96,11 +99,12 @@ impl MemDevice {
     }
 
     pub(crate) fn count_call(&mut self) -> Moment
-        ensures moment { result ≡ moment_at self.old.log.plan.script self.old.calls }
-        ensures planned { IsPlanned self.old.log.plan.script result }
+        ensures moment { result ≡ moment_at self.old.log.plan.script.losses self.old.log.plan.script.faults self.old.calls }
+        ensures planned { IsPlanned self.old.log.plan.script.losses self.old.log.plan.script.faults result }
         ensures rest { self.new ≡ record self.old { calls = counted self.old.calls } }
     {
-        let moment = moment_of(&self.log.plan.script, self.calls);
+        let script = &self.log.plan.script;
+        let moment = moment_at(&script.losses, &script.faults, self.calls);
         self.calls = count_one(self.calls);
         moment
     }
@@ -147,7 +151,7 @@ impl MemDevice {
         ensures plan { self.new.log.plan ≡ self.old.log.plan }
         ensures exact { mem_of self.new ≡ lost (Event.Loss ∷ []) tear (with_device (after_write at bytes.now) (mem_of self.old)) }
     {
-        self.disk.write(at, bytes);
+        self.disk.write(at as usize, bytes);
         self.lose(tear);
     }
 

@@ -8,6 +8,7 @@ mod device;
 mod disk;
 mod folder;
 mod log;
+mod moment;
 mod script;
 #[cfg(test)]
 mod tests;
@@ -15,5 +16,7 @@ mod work;
 
 pub use area::AreaBytes;
 pub use device::MemDevice;
+pub use disk::MemDisk;
+pub use moment::{Moment, moment_at};
 pub use script::{AnswerList, LossAt, LossList, Plan, Script, Tear};
 pub use work::{WorkFile, WorkList};

@@ -1,8 +1,7 @@
 //! What a device in memory is set up to do.
 
-ghost use Rattle.std.specs.Prelude.{◌≡◌, ◌==◌, find};
-ghost use Rattle.std.specs.List.{list_any};
-ghost use Rattle.device_mem.specs.Script.{moment_at, IsPlanned, is_cut, answer_at, as_exit, answer_of, reply_of, reply_to, support_of};
+ghost use Rattle.std.specs.Prelude.{◌≡◌};
+ghost use Rattle.device_mem.specs.Script.{is_cut, answer_at, as_exit, answer_of, reply_of, reply_to, support_of};
 
 use device_model::{Answer, Query};
 use upd_text::{CallList, ListOf, Text32};
@@ -57,44 +56,6 @@ pub struct Plan {
     pub taken: u32,
     pub started: u64,
     pub losses: u64,
-}
-
-/// What a call meets.
-#[derive(Clone, Copy, Debug, PartialEq, Eq)]
-pub(crate) enum Moment {
-    Fine,
-    Fails,
-    Loses(LossAt),
-}
-
-/// The first loss that is planned for this call.
-fn loss_at(script: &Script, call: u64) -> Option<LossAt>
-    ensures { result ≡ find (λ loss. loss.call == call) script.now.losses }
-{
-    let losses = script.losses.as_slice();
-    losses.iter().copied().find(|loss| loss.call == call)
-}
-
-fn is_failing(script: &Script, call: u64) -> bool
-    ensures { result ≡ list_any (λ k. k == call) script.now.faults }
-{
-    script.faults.as_slice().contains(&call)
-}
-
-pub(crate) fn moment_of(script: &Script, call: u64) -> Moment
-    ensures moment { result ≡ moment_at script.now call }
-    ensures planned { IsPlanned script.now result }
-{
-    match loss_at(script, call) {
-        Some(loss) => Moment::Loses(loss),
-        None => {
-            if is_failing(script, call) {
-                Moment::Fails
-            } else {
-                Moment::Fine
-            }
-        }
-    }
 }
 
 pub(crate) fn is_cut_at(script: &Script, started: u64) -> bool

@@ -17,7 +17,7 @@ use Rattle.device_model.proofs.Refilled.{refilled_none, refilled_wider, unmarked
 pub same : (old new : Option Disk) → new ≡ old → KeepsDisk old new
 same old new e = record { adds = λ a h. subst (λ (d : Option Disk). MayHold d a) e h; settled = λ s. e }
 
-all_synced : (u : List Bool) → u ≡ unmarked u → (i : ℕ) → IsSynced u i
+pub all_synced : (u : List Bool) → u ≡ unmarked u → (i : ℕ) → IsSynced u i
 all_synced u e i = subst (λ (v : List Bool). IsSynced v i) (sym e) (unmarked_synced u i)
 
 pub torn : (old new : Option Disk) → WhereTold (IsTorn 0 0) old new → KeepsDisk old new
@@ -34,7 +34,7 @@ torn (Some o) (Some n) h = record {
       ap (λ (x : List ℕ). Some (record n { area = x })) area ∙ ap (λ (u : List Bool). Some (record o { unsynced = u })) flags;
 }
 
-synced_keeps : (old : Option Disk) → KeepsDisk old (option_map synced old)
+pub synced_keeps : (old : Option Disk) → KeepsDisk old (option_map synced old)
 synced_keeps None = record { adds = λ a held. held; settled = λ s. refl }
 synced_keeps (Some o) = record {
   adds = λ a held. refilled_wider (IsSynced (unmarked o.unsynced)) (IsSynced o.unsynced) o.area a (λ i out. unmarked_synced o.unsynced i) held;
@@ -44,7 +44,7 @@ synced_keeps (Some o) = record {
 pub loses : (old new : State) → LosesPower 0 0 old new → KeepsDisk old.disk new.disk
 loses old new l = torn old.disk new.disk l.disk
 
-off : (b : Bool) (L E K : Type 0) → MatchBool b L E → (L → K) → (E → K) → K
+pub off : (b : Bool) (L E K : Type 0) → MatchBool b L E → (L → K) → (E → K) → K
 off true L E K h f g = f h
 off false L E K h f g = g h
 

@@ -16,7 +16,7 @@ module _ (size at count : ℕ) (fits : at + count ≤ size) where
   union : (o : Disk) → IsDisk size o → (a : List ℕ) → IsRefilled (λ i. IsSynced o.unsynced i × IsApart at count i) o.area a → (d : List ℕ) × IsRefilled (IsSynced o.unsynced) o.area d × IsRefilled (IsApart at count) d a
   union o whole a h = refilled_split (IsSynced o.unsynced) at count o.area a (omega (arith, whole.size)) whole.bytes h
 
-  lost : (old new : Option Disk) → IsWhole size old → WhereTold (IsTorn at count) old new → ChangesOnly at count old new
+  pub lost : (old new : Option Disk) → IsWhole size old → WhereTold (IsTorn at count) old new → ChangesOnly at count old new
   lost None None w h a held = (a, held, refilled_self (IsApart at count) a held)
   lost None (Some n) w h a held = absurd h
   lost (Some o) None w h a held = absurd h
@@ -24,7 +24,7 @@ module _ (size at count : ℕ) (fits : at + count ≤ size) where
       let same : a ≡ n.area = settled o.unsynced n a h.unsynced held in
       union o w a (subst (λ (b : List ℕ). IsRefilled (λ i. IsSynced o.unsynced i × IsApart at count i) o.area b) (sym same) h.area)
 
-  spoiled : (old new : Option Disk) → IsWhole size old → WhereTold (IsSpoiled at count) old new → ChangesOnly at count old new
+  pub spoiled : (old new : Option Disk) → IsWhole size old → WhereTold (IsSpoiled at count) old new → ChangesOnly at count old new
   spoiled None None w h a held = (a, held, refilled_self (IsApart at count) a held)
   spoiled None (Some n) w h a held = absurd h
   spoiled (Some o) None w h a held = absurd h
@@ -36,7 +36,7 @@ module _ (size at count : ℕ) (fits : at + count ≤ size) where
       let first = refilled_wider (IsApart at count) both o.area n.area (λ i out. out.1) h.area in
       union o w a (refilled_trans both o.area n.area a first second)
 
-done : (size at : ℕ) (bytes : List ℕ) → at + length bytes ≤ size → (old : Option Disk) → IsWhole size old → ChangesOnly at (length bytes) old (option_map (written at bytes) old)
+pub done : (size at : ℕ) (bytes : List ℕ) → at + length bytes ≤ size → (old : Option Disk) → IsWhole size old → ChangesOnly at (length bytes) old (option_map (written at bytes) old)
 done size at bytes fits None w a held = (a, held, refilled_self _ a held)
 done size at bytes fits (Some o) w a held =
     let fits_area : at + length bytes ≤ length o.area = omega (arith, w.size) in
@@ -50,7 +50,7 @@ done size at bytes fits (Some o) w a held =
           out.1;
     })
 
-went-off : (on : Bool) (L E : Type 0) → on ≡ true → MatchBool on L E → L
+pub went-off : (on : Bool) (L E : Type 0) → on ≡ true → MatchBool on L E → L
 went-off true L E e h = h
 went-off false L E e h = absurd cc
 

@@ -1,6 +1,5 @@
 -- A place in memory, and what each of its calls answers and leaves, exactly.
-use Rattle.std.specs.Prelude.{◌≡◌, ◌≢◌, ⊤, ℕ, ◌+◌, ◌==◌, nat_le, Bool, true, false, List, [], length, find, if◌then◌else◌, Option, Some, None, Result, IsOk, IsErrOf, MatchBool}
-use Rattle.std.specs.List.{list_any}
+use Rattle.std.specs.Prelude.{◌≡◌, ◌≢◌, ⊤, ℕ, ◌+◌, nat_le, Bool, true, false, List, [], length, if◌then◌else◌, Option, Some, None, Result, IsOk, IsErrOf, MatchBool}
 use Rattle.std.specs.Option.{option_map_or}
 use Rattle.upd_text.specs.Counts.{counted}
 use Rattle.device_model.specs.declared.calls.Down.{Down}
@@ -8,8 +7,9 @@ use Rattle.device_model.specs.declared.calls.Down.TheVariants.{Off, Fault}
 use Rattle.device_mem.specs.declared.script.LossAt.{LossAt}
 use Rattle.device_mem.specs.declared.script.Tear.{Tear}
 use Rattle.device_mem.specs.declared.script.Tear.TheVariants.{Old, New, Byte}
-use Rattle.file_module.specs.declared.moment.Moment.{Moment}
-use Rattle.file_module.specs.declared.moment.Moment.TheVariants.{Fine, Fails, Loses}
+use Rattle.device_mem.specs.declared.moment.Moment.{Moment}
+use Rattle.device_mem.specs.declared.moment.Moment.TheVariants.{Fine, Fails, Loses}
+use Rattle.device_mem.specs.Moment.{moment_at}
 use Rattle.file_module.specs.declared.mem_place.Effect.{Effect}
 use Rattle.file_module.specs.declared.mem_place.Effect.TheVariants.{Nothing, Start, Settle, Move, Remove}
 use Rattle.file_module.specs.declared.place.Slot.TheVariants as Slot
@@ -33,13 +33,9 @@ empty_shelf room losses failing = record {
   calls = 0;
 }
 
-abbrev pub moment_by : Option LossAt → Bool → Moment
-moment_by (Some loss) fails = Loses loss
-moment_by None fails = if fails then Fails else Fine
-
--- what the next call meets: the first loss that is planned for it, else a fault that is, else nothing
+-- what the next call meets
 abbrev pub next_moment : MemShelf → Moment
-next_moment m = moment_by (find (λ loss. loss.call == m.calls) m.losses) (list_any (λ k. k == m.calls) m.failing)
+next_moment m = moment_at m.losses m.failing m.calls
 
 abbrev pub called : MemShelf → MemShelf
 called m = record m { calls = counted m.calls }

@@ -7,9 +7,8 @@ ghost use Rattle.file_module.specs.Calls.{EndsWhole, EndsFresh, Reads, Gives, Lo
 ghost use Rattle.file_module.specs.MemShelf.{empty_shelf, next_moment, called, with_place, with_effect, CanHappen, with_append_if, torn, lost, fits, Acts, Appends};
 
 use crate::held::Held;
-use crate::moment::{Moment, moment_at};
 use crate::place::{Place, Slot};
-use device_mem::{LossList, Tear};
+use device_mem::{LossList, Moment, Tear, moment_at};
 use device_model::Down;
 use std::alloc::Global;
 use std::marker::Model;
