@@ -8,9 +8,8 @@ use Rattle.std.proofs.lemmas.List.Elements.{All-push}
 use Rattle.std.proofs.lemmas.Option.{slice_get_read}
 use Rattle.upd_text.specs.Told.{WhereTold}
 use Rattle.io_model.specs.Reading.{OnlyOf}
-use Rattle.io_model.specs.Source.{File, Tree, Content, count_of, path_at, bytes_at}
+use Rattle.io_model.specs.Source.{File, Tree, Content, count_of, path_at, bytes_at, When}
 use Rattle.io_model.specs.Source.Content.{Told, Untold}
-use Rattle.admit.specs.Told.{When}
 use Rattle.admit.specs.Places.{place_at, info_at}
 use Rattle.admit.specs.Table.{FileHead, heads_of, info_in}
 use Rattle.admit.specs.Admit.{info_text, info_texts}

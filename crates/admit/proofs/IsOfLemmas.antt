@@ -11,11 +11,10 @@ use Rattle.std.proofs.lemmas.List.Elements.{All-nil, All-cons, All-head, All-tai
 use Rattle.std.proofs.lemmas.Map.Views.{All-insert_key}
 use Rattle.std.proofs.lemmas.Slice.Zip.{AllZip-long}
 use Rattle.upd_text.specs.Order.{byte_cmp}
-use Rattle.io_model.specs.Source.{Tree, Content, count_of, path_at}
+use Rattle.io_model.specs.Source.{Tree, Content, count_of, path_at, When}
 use Rattle.io_model.specs.Source.Content.{Told, Untold}
 use Rattle.manifest_sums.specs.declared.manifest.Line.{Line}
 use Rattle.script_names.specs.Scripts.{is_artifact_script}
-use Rattle.admit.specs.Told.{When}
 use Rattle.admit.specs.Places.{place_of, place_at, is_allowed, is_manifest, is_info_of, spelled}
 use Rattle.admit.specs.declared.place.TreePlace.{TreePlace}
 use Rattle.admit.specs.declared.place.TreePlace.TheVariants as at

@@ -1,18 +1,10 @@
--- A file's bytes, piece by piece.
-use Rattle.std.proofs.Common.{◌≡◌, ℕ, ◌+◌, ◌≤◌, ◌∙◌, List, ◌++◌, length, take, drop, sym, ap, subst, take-add}
-use Rattle.std.proofs.lemmas.List.{length-take-le, take_at, drop_at, take-append-le}
-use Rattle.io_model.specs.Source.{Content, bytes_at, IsPart}
+-- The sum of a file, piece by piece.
+use Rattle.std.proofs.Common.{◌≡◌, ℕ, ◌+◌, ◌≤◌, ◌∙◌, List, ◌++◌, length, take, drop, ap, subst}
+use Rattle.io_model.specs.Source.{Content, When, bytes_at, IsPart}
 use Rattle.io_model.specs.Source.Content.{Told, Untold}
-use Rattle.admit.specs.Told.{When}
+use Rattle.io_model.proofs.Pieces.{next_part}
 use Rattle.manifest_sums.specs.Message.{Has}
 use Rattle.manifest_sums.specs.declared.sum.Summing.{Summing}
-
-pub next_part : (c : Content) (i at n : ℕ) (into : List ℕ) → n ≤ length into → IsPart c i at (take n into) → When c (λ t. take at (bytes_at t i) ++ take n into ≡ take (at + n) (bytes_at t i))
-next_part (Untold m) i at n into fits part = tt
-next_part (Told t) i at n into fits part =
-    let long : length (take n into) ≡ n = length-take-le n into fits in
-    let same : take n into ≡ take n (drop at (bytes_at t i)) = part ∙ ap (λ k. take k (drop at (bytes_at t i))) long in
-    ap (λ ys. take at (bytes_at t i) ++ ys) same ∙ sym (take-add at n (bytes_at t i))
 
 -- a summing that had the file's bytes up to at has n more after the piece
 pub next_sum : (c : Content) (i at n : ℕ) (into piece : List ℕ) (old new : Summing) → n ≤ length into → piece ≡ take n into → IsPart c i at (take n into) → ((message : List ℕ) → Has old message → Has new (message ++ piece)) → When c (λ t. Has old (take at (bytes_at t i))) → When c (λ t. Has new (take (at + n) (bytes_at t i)))
@@ -20,11 +12,3 @@ next_sum (Untold m) i at n into piece old new fits e part step h = tt
 next_sum (Told t) i at n into piece old new fits e part step h =
     let P : List ℕ → Type 0 = λ m. Has new m in
     subst P (ap (λ ys. take at (bytes_at t i) ++ ys) e ∙ next_part (Told t) i at n into fits part) (step (take at (bytes_at t i)) h)
-
-pub next_read : (c : Content) (i at n : ℕ) (old into rest : List ℕ) → at ≤ length old → n ≤ length into → IsPart c i at (take n into) → When c (λ t. take at old ≡ take at (bytes_at t i)) → When c (λ t. take (at + n) (take at old ++ (into ++ rest)) ≡ take (at + n) (bytes_at t i))
-next_read (Untold m) i at n old into rest within fits part h = tt
-next_read (Told t) i at n old into rest within fits part h =
-    let long : length (take at old) ≡ at = length-take-le at old within in
-    let front : take at (take at old ++ (into ++ rest)) ≡ take at old = take_at (take at old) (into ++ rest) at long in
-    let back : drop at (take at old ++ (into ++ rest)) ≡ into ++ rest = drop_at (take at old) (into ++ rest) at long in
-    take-add at n (take at old ++ (into ++ rest)) ∙ ap (λ xs. xs ++ take n (drop at (take at old ++ (into ++ rest)))) (front ∙ h) ∙ ap (λ ys. take at (bytes_at t i) ++ ys) (ap (take n) back ∙ take-append-le n into rest fits) ∙ next_part (Told t) i at n into fits part

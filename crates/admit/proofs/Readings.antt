@@ -11,11 +11,10 @@ use Rattle.std.proofs.lemmas.Option.{slice_get_past}
 use Rattle.std.proofs.lemmas.Slice.Zip.{length-zip, get_or-zip}
 use Rattle.manifest_sums.specs.declared.manifest.Line.{Line}
 use Rattle.upd_text.specs.Told.{WhereTold}
-use Rattle.io_model.specs.Source.{File, Tree, Content, path_at}
+use Rattle.io_model.specs.Source.{File, Tree, Content, path_at, When}
 use Rattle.io_model.specs.Source.Content.{Told, Untold}
 use Rattle.io_model.specs.Reading.{AreRead}
 use Rattle.io_model.proofs.Readings.{part_of_none, Apart, not_read, is_read}
-use Rattle.admit.specs.Told.{When}
 use Rattle.admit.specs.Places.{place_of, place_at, is_payload}
 use Rattle.admit.specs.IsOf.{IsOf}
 use Rattle.admit.specs.declared.admitted.Admitted.{Admitted}

@@ -1,8 +1,7 @@
 -- The table of the files, row by row.
 use Rattle.std.proofs.Common.{◌≡◌, ℕ, ◌+◌, ◌<◌, List, [], ◌∷◌, ◌++◌, length, take, Option, refl, ap, arith, zero, suc, add-one}
-use Rattle.io_model.specs.Source.{Tree, Content, count_of, path_at, bytes_at, IsPath, IsLength}
+use Rattle.io_model.specs.Source.{Tree, Content, count_of, path_at, bytes_at, IsPath, IsLength, When}
 use Rattle.io_model.specs.Source.Content.{Told, Untold}
-use Rattle.admit.specs.Told.{When}
 use Rattle.admit.specs.Table.{heads_of}
 use Rattle.admit.specs.Table.{FileHead}
 

@@ -4,12 +4,11 @@ use Rattle.std.specs.Prelude.{codes, cond, not}
 use Rattle.std.specs.List.{All, AllZip, zip, cons_option}
 use Rattle.std.proofs.lemmas.List.Elements.{All-nil, All-cons}
 use Rattle.upd_text.specs.Told.{WhereTold}
-use Rattle.io_model.specs.Source.{Tree, Content, path_at}
+use Rattle.io_model.specs.Source.{Tree, Content, path_at, When}
 use Rattle.io_model.specs.Source.Content.{Told, Untold}
 use Rattle.io_model.specs.Reading.{IsUnread, OnlyOf}
 use Rattle.io_model.proofs.Readings.{read_after, part_of_none}
 use Rattle.manifest_sums.specs.declared.manifest.Line.{Line}
-use Rattle.admit.specs.Told.{When}
 use Rattle.admit.specs.Places.{place_of, place_at, is_payload}
 use Rattle.admit.specs.Table.{FileHead, heads_of, info_in, table_of}
 use Rattle.admit.specs.Admit.{lines_of}

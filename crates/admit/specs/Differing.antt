@@ -3,9 +3,8 @@ use Rattle.std.specs.Prelude.{◌≡◌, ◌≢◌, ℕ, true, Bool, if◌then�
 use Rattle.std.specs.List.{Any, filter_map, zip}
 use Rattle.std.specs.Str.{bytes_eq}
 use Rattle.sha2.specs.Sha256.{sha256}
-use Rattle.io_model.specs.Source.{Tree, Content, bytes_at}
+use Rattle.io_model.specs.Source.{Tree, Content, bytes_at, When}
 use Rattle.manifest_sums.specs.declared.manifest.Line.{Line}
-use Rattle.admit.specs.Told.{When}
 use Rattle.admit.specs.Places.{place_of, is_payload}
 use Rattle.admit.specs.Table.{first_some}
 use Rattle.admit.specs.declared.admitted.Admitted.{Admitted}

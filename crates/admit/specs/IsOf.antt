@@ -1,11 +1,10 @@
 -- What is admitted is of its source.
 use Rattle.std.specs.Prelude.{◌≡◌, ◌≢◌, ◌⊎◌, ℕ, ◌<◌, ◌↔◌, ◌++◌, List, length, codes, Some, AllPairs}
 use Rattle.std.specs.List.{All, AllPass, Any, AllZip, Contains}
-use Rattle.io_model.specs.Source.{Content, count_of, path_at}
+use Rattle.io_model.specs.Source.{Content, count_of, path_at, When}
 use Rattle.artifact_meta.specs.Header.{AreKinds}
 use Rattle.manifest_sums.specs.declared.manifest.Line.{Line}
 use Rattle.script_names.specs.Scripts.{is_artifact_script}
-use Rattle.admit.specs.Told.{When}
 use Rattle.admit.specs.Places.{place_of, is_allowed, spelled}
 use Rattle.admit.specs.declared.place.TreePlace.TheVariants.{TypeInfo}
 use Rattle.admit.specs.declared.admitted.Admitted.{Admitted}

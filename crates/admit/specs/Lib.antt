@@ -1,4 +1,3 @@
-pub mod Told
 pub mod Places
 pub mod Table
 pub mod Admit

@@ -2,8 +2,7 @@
 
 ghost use Rattle.std.specs.Prelude.{◌≡◌, IfOk};
 ghost use Rattle.std.specs.Result.{is_ok};
-ghost use Rattle.io_model.specs.Source.{count_of};
-ghost use Rattle.admit.specs.Told.{When};
+ghost use Rattle.io_model.specs.Source.{count_of, When};
 ghost use Rattle.admit.specs.Answers.{Counted, Gives, Proper};
 ghost use Rattle.admit.specs.Given.{SparesPayloads, ReadsPayloads};
 ghost use Rattle.admit.specs.Admit.{head_plan_of, plan_of};

@@ -3,8 +3,7 @@
 ghost use Rattle.std.specs.Prelude.{◌≡◌, ◌≤◌, ◌<◌, ◌^◌, ◌-◌, ◌+◌, ℕ, length, take, IfOk, IfSome, IsSome, OnOk};
 ghost use Rattle.manifest_sums.specs.Message.{Has};
 ghost use Rattle.sha2.specs.Sha256.{sha256};
-ghost use Rattle.io_model.specs.Source.{Tree, Counts, count_of, bytes_at, IsLength};
-ghost use Rattle.admit.specs.Told.{When};
+ghost use Rattle.io_model.specs.Source.{Tree, Counts, count_of, bytes_at, IsLength, When};
 ghost use Rattle.admit.specs.Answers.{Stops};
 ghost use Rattle.admit.specs.Table.{heads_of, info_in, IsShortAt, AreIn};
 ghost use Rattle.io_model.specs.Reading.{OnlyOf};
@@ -14,7 +13,7 @@ ghost use Rattle.admit.specs.Given.{ReadsPiece, ReadsFile, OnlyInfos, NoneBut};
 
 use crate::stop::Stop;
 use crate::table::{Head, Places};
-use io_model::{Source, SourceFault};
+use io_model::{Source, SourceFault, fill};
 use manifest_sums::{Sum, Summing};
 use std::alloc::{AllocError, Global};
 use upd_text::ListOf;
@@ -40,41 +39,6 @@ pub(crate) fn zeros(alloc: Global, count: usize) -> Result<Vec<u8>, AllocError>
     ensures { IfOk result (λ z. length z.items ≡ count) }
 {
     vec![in alloc; 0; count]
-}
-
-/// One more piece of a file, at its place in the buffer.
-fn read_piece<S: Source>(source: &mut S, i: u32, at: usize, into: &mut [u8]) -> Result<usize, Stop>
-    requires file { i < count_of (S.content source.old) }
-    requires room { at < length into.old }
-    requires long { IsLength (S.content source.old) i (length into.old) }
-    ensures same { S.content source.new ≡ S.content source.old }
-    ensures plan { S.plan source.new ≡ S.plan source.old }
-    ensures given { ReadsPiece i result (S.given source.old) (S.given source.new) }
-    ensures stops { Stops (S.faults source.old) result (S.faults source.new) }
-    ensures some { IfOk result (λ n. 0 < n) }
-    ensures most { IfOk result (λ n. at + n ≤ length into.old) }
-    ensures next { IfOk result (λ n. When (S.content source.old) (λ t. take at into.old ≡ take at (bytes_at t i)) → When (S.content source.old) (λ t. take (at + n) into.new ≡ take (at + n) (bytes_at t i))) }
-{
-    let n = source.read(i, at as u64, &mut into[at..])?;
-    Ok(n)
-}
-
-/// All bytes of a file, into a buffer of its length.
-fn fill<S: Source>(source: &mut S, i: u32, into: &mut [u8]) -> Result<(), Stop>
-    requires file { i < count_of (S.content source.old) }
-    requires long { IsLength (S.content source.old) i (length into.old) }
-    ensures same { S.content source.new ≡ S.content source.old }
-    ensures plan { S.plan source.new ≡ S.plan source.old }
-    ensures given { WhereTold (OnlyOf i) (S.given source.old) (S.given source.new) }
-    ensures stops { Stops (S.faults source.old) result (S.faults source.new) }
-    ensures bytes { OnOk result (When (S.content source.old) (λ t. into.new ≡ bytes_at t i)) }
-{
-    let mut at: usize = 0;
-    while at < into.len() {
-        let n = read_piece(source, i, at, into)?;
-        at += n;
-    }
-    Ok(())
 }
 
 /// All bytes of a file of at most 65,536 bytes.

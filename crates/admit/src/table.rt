@@ -3,8 +3,7 @@
 ghost use Rattle.std.specs.Prelude.{◌≡◌, ◌≤◌, ◌<◌, ◌^◌, length, take, Some, IfOk, IfErr, IfSome};
 ghost use Rattle.std.specs.List.{list_any, filter_map};
 ghost use Rattle.std.specs.Option.{option_copied};
-ghost use Rattle.io_model.specs.Source.{count_of};
-ghost use Rattle.admit.specs.Told.{When};
+ghost use Rattle.io_model.specs.Source.{count_of, When};
 ghost use Rattle.admit.specs.Places.{place_at};
 ghost use Rattle.admit.specs.Answers.{Stops, IsCause};
 ghost use Rattle.admit.specs.Table.{heads_of, has_path, place_in, too_many, bad_path, first_bad_path, path_of, needed, long_path, lesser, least, too_long, table_of, AreIn};

@@ -7,12 +7,11 @@ use Rattle.device_model.specs.declared.calls.Event.{Event}
 use Rattle.device_model.specs.Disk.{area_of}
 use Rattle.device_model.specs.State.{State}
 use Rattle.device_model.specs.How.{Through, has_start}
-use Rattle.io_model.specs.Source.{Content, Tree}
+use Rattle.io_model.specs.Source.{Content, Tree, When}
 use Rattle.io_model.specs.Source.Content.{Told, Untold}
 use Rattle.io_model.specs.Reading.{IsReadBy}
 use Rattle.io_model.proofs.Readings.{part_of_once}
 use Rattle.script_names.specs.declared.site.Site.{Site}
-use Rattle.admit.specs.Told.{When}
 use Rattle.admit.specs.Given.{SparesPayloads, ReadsPayloads}
 use Rattle.admit.specs.Admit.{plan_of, head_plan_of}
 use Rattle.admit.specs.Answers.{IsProper}

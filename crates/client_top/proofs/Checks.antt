@@ -2,9 +2,8 @@
 use Rattle.std.proofs.Common.{◌≡◌, refl}
 use Rattle.std.specs.Prelude.{Some, false, Ok}
 use Rattle.device_model.specs.State.{State}
-use Rattle.io_model.specs.Source.{Content}
+use Rattle.io_model.specs.Source.{Content, When}
 use Rattle.script_names.specs.declared.site.Site.{Site}
-use Rattle.admit.specs.Told.{When}
 use Rattle.admit.specs.Given.{ReadsPayloads}
 use Rattle.record_codec.specs.Spelling.{IsRight, IfFull}
 use Rattle.slot_store.specs.Kept.{Kept}

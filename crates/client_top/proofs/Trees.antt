@@ -3,10 +3,9 @@ use Rattle.std.proofs.Common.{◌≡◌, inl, inr, ℕ, refl, sym, ap, ◌∙◌
 use Rattle.std.proofs.lemmas.Bool.{ltb-true, ltb-false, lt-ltb, le-ltb}
 use Rattle.std.specs.Prelude.{◌<◌, ◌≤◌, Bool, true, false, nat_lt, if◌then◌else◌, Option, Result, Ok, Err}
 use Rattle.std.specs.Option.{option_map}
-use Rattle.io_model.specs.Source.{Content, Tree, count_of}
+use Rattle.io_model.specs.Source.{Content, Tree, count_of, When}
 use Rattle.io_model.specs.Source.Content.{Told, Untold}
 use Rattle.script_names.specs.declared.site.Site.{Site}
-use Rattle.admit.specs.Told.{When}
 use Rattle.admit.specs.Admit.{plan_of, head_plan_of}
 use Rattle.admit.specs.Answers.{IsProper}
 use Rattle.admit.specs.IsOf.{IsOf}

@@ -5,7 +5,7 @@ use Rattle.upd_text.specs.Told.{WhereTold}
 use Rattle.device_model.specs.Disk.{Disk, IsTold, IsSettled, area_of}
 use Rattle.device_model.specs.Work.{Work}
 use Rattle.device_model.specs.State.{State}
-use Rattle.io_model.specs.Source.{Content}
+use Rattle.io_model.specs.Source.{Content, When}
 use Rattle.io_model.specs.Sink.{Written, Writes, WritesFront}
 use Rattle.flow_table.specs.Table.{fresh_position}
 use Rattle.flow_words.specs.Pieces.{End}
@@ -15,7 +15,6 @@ use Rattle.record_codec.specs.declared.entry.Db.{Db}
 use Rattle.record_codec.specs.Spelling.{IsRight, IfFull}
 use Rattle.record_codec.specs.Held.{held}
 use Rattle.slot_store.specs.Slots.{May, Sound, Stands}
-use Rattle.admit.specs.Told.{When}
 use Rattle.admit.specs.Given.{ReadsPayloads}
 use Rattle.admit.specs.declared.admitted.Admitted.{Admitted}
 use Rattle.admit.specs.declared.refusal.Refusal.TheVariants.{PayloadDiffers}

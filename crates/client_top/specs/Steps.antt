@@ -2,14 +2,13 @@
 use Rattle.std.specs.Prelude.{◌≡◌, ℕ, ◌<◌, ◌≤◌, Bool, true, false, if◌then◌else◌, nat_lt, Option, Some, Result, Ok, Err, ⊤}
 use Rattle.device_model.specs.State.{State}
 use Rattle.device_model.specs.How.{Through}
-use Rattle.io_model.specs.Source.{Content}
+use Rattle.io_model.specs.Source.{Content, When}
 use Rattle.script_names.specs.declared.site.Site.{Site}
 use Rattle.provides_map.specs.Pairs.{Pairs}
 use Rattle.provides_map.specs.After.{after}
 use Rattle.std.specs.List.{AllPass}
 use Rattle.artifact_meta.specs.Header.{AreKinds}
 use Rattle.script_names.specs.Scripts.{is_artifact_script}
-use Rattle.admit.specs.Told.{When}
 use Rattle.admit.specs.Admit.{head_plan_of}
 use Rattle.admit.specs.Change.{change_of}
 use Rattle.admit.specs.Differing.{in_payload}

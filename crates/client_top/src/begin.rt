@@ -10,7 +10,7 @@ ghost use Rattle.provides_map.specs.Pairs.{IsMap};
 ghost use Rattle.record_codec.specs.Spelling.{IsRight, IfFull};
 ghost use Rattle.record_codec.specs.Held.{held, position_of};
 ghost use Rattle.slot_store.specs.Kept.{IsOf};
-ghost use Rattle.admit.specs.Told.{When};
+ghost use Rattle.io_model.specs.Source.{When};
 ghost use Rattle.admit.specs.Given.{SparesPayloads};
 ghost use Rattle.client_words.specs.declared.command.Command.TheVariants as command;
 ghost use Rattle.client_top.specs.Answers.{row_of, source_count};

@@ -4,7 +4,7 @@ ghost use Rattle.std.specs.Prelude.{◌≡◌, IfOk, false, Ok, Some};
 ghost use Rattle.record_codec.specs.Spelling.{IsRight, IfFull, record_length};
 ghost use Rattle.record_codec.specs.declared.entry.Entry.{Entry};
 ghost use Rattle.record_codec.specs.Held.{held};
-ghost use Rattle.admit.specs.Told.{When};
+ghost use Rattle.io_model.specs.Source.{When};
 ghost use Rattle.admit.specs.Given.{ReadsPayloads};
 ghost use Rattle.client_top.specs.Answers.{row_of, source_count};
 ghost use Rattle.client_top.specs.Finds.{begun, check_found};

@@ -1,5 +1,5 @@
 -- What reading in pieces, and file after file, adds up to.
-use Rattle.std.proofs.Common.{◌≡◌, ◌≢◌, ◌∙◌, ◌⊎◌, inl, inr, ℕ, ◌+◌, ◌<◌, ◌≤◌, zero, suc, Bool, true, false, List, [], ◌∷◌, length, Option, Some, None, refl, sym, ap, subst, arith}
+use Rattle.std.proofs.Common.{◌≡◌, ◌≢◌, ◌∙◌, inl, inr, ℕ, ◌+◌, zero, suc, Bool, true, false, List, [], ◌∷◌, length, Option, Some, None, refl, sym, ap, arith}
 use Rattle.std.specs.Prelude.{get_or, set, option_map}
 use Rattle.std.specs.List.{Contains, All}
 use Rattle.std.proofs.lemmas.List.{set-get_or, get_or-set_same, get_or-set_other}
@@ -7,7 +7,7 @@ use Rattle.upd_text.specs.Counts.{raised}
 use Rattle.upd_text.specs.Told.{WhereTold}
 use Rattle.io_model.specs.Source.{Tree, Content, IsLength, bytes_at, gave, HasNumber}
 use Rattle.io_model.specs.Source.Content.{Told, Untold}
-use Rattle.io_model.specs.Reading.{Rises, IsUnread, OnlyOf, IsReadOnce, IsReadInPart, IsReadBy, Gave, IsAtMost, IsReadAlone, AreRead}
+use Rattle.io_model.specs.Reading.{IsUnread, OnlyOf, IsReadOnce, IsReadInPart, IsReadBy, Gave, IsAtMost, IsReadAlone, AreRead}
 
 -- ---- the number of one file
 

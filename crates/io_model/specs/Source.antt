@@ -27,6 +27,11 @@ path_at t i = option_and_then (λ f. f.0) (slice_get t i)
 abbrev pub bytes_at : Tree → ℕ → List ℕ
 bytes_at t i = option_map_or (λ f. f.1) (slice_get t i) []
 
+-- of the files, where they are told
+abbrev pub When : Content → (Tree → Type 0) → Type 0
+When (Untold n) P = Unit {0}
+When (Told t) P = P t
+
 -- an answer, and what it does to the count of faults: only a fault is counted
 abbrev pub Counts : {A : Type 0} → ℕ → Result A SourceFault → ℕ → Type 0
 Counts old (Ok x) new = new ≡ old

@@ -5,6 +5,7 @@ mod line;
 mod mem_sink;
 mod mem_source;
 mod no_sink;
+mod reading;
 mod sink;
 mod source;
 
@@ -12,6 +13,7 @@ pub use line::{LONGEST_LINE, Line};
 pub use mem_sink::MemSink;
 pub use mem_source::{FileList, MemSource, TreeFile};
 pub use no_sink::NoSink;
+pub use reading::fill;
 pub use sink::{Sink, SinkFault};
 pub use source::{Source, SourceFault};
 

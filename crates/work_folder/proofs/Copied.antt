@@ -9,11 +9,10 @@ use Rattle.std.proofs.lemmas.Slice.Eq.{bytes_eq-Decides}
 use Rattle.sha2.specs.Sha256.{sha256}
 use Rattle.upd_text.specs.Told.{WhereTold}
 use Rattle.manifest_sums.specs.declared.manifest.Line.{Line}
-use Rattle.io_model.specs.Source.{Tree, Content, bytes_at, IsLength, InFile}
+use Rattle.io_model.specs.Source.{Tree, Content, bytes_at, IsLength, InFile, When}
 use Rattle.io_model.specs.Source.Content.{Told, Untold}
 use Rattle.io_model.specs.Reading.{IsAtMost, Gave, AreRead}
 use Rattle.io_model.proofs.Readings.{read_first, read_part, in_part, gave_nothing}
-use Rattle.admit.specs.Told.{When}
 use Rattle.admit.specs.Table.{first_some}
 use Rattle.admit.specs.Differing.{Listed, listed_of, IsDiffering, differing}
 use Rattle.admit.specs.declared.admitted.Admitted.{Admitted}

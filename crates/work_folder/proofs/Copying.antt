@@ -8,9 +8,8 @@ use Rattle.device_model.specs.declared.calls.Part.{Part}
 use Rattle.device_model.specs.Work.{with_bytes}
 use Rattle.device_model.specs.State.{State, after_work}
 use Rattle.device_model.proofs.Appends.{after_work-twice}
-use Rattle.io_model.specs.Source.{Content, bytes_at, IsLength}
+use Rattle.io_model.specs.Source.{Content, bytes_at, IsLength, When}
 use Rattle.io_model.specs.Source.Content.{Told, Untold}
-use Rattle.admit.specs.Told.{When}
 use Rattle.work_folder.specs.Adding.{CopiesPiece, Copies}
 
 -- what was copied so far

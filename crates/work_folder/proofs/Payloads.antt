@@ -9,11 +9,10 @@ use Rattle.std.proofs.lemmas.Slice.Eq.{bytes_eq-Decides}
 use Rattle.sha2.specs.Sha256.{sha256}
 use Rattle.upd_text.specs.Told.{WhereTold}
 use Rattle.manifest_sums.specs.declared.manifest.Line.{Line}
-use Rattle.io_model.specs.Source.{Tree, Content, bytes_at, path_at}
+use Rattle.io_model.specs.Source.{Tree, Content, bytes_at, path_at, When}
 use Rattle.io_model.specs.Source.Content.{Told, Untold}
 use Rattle.io_model.specs.Reading.{IsUnread, IsReadBy, AreRead}
 use Rattle.io_model.proofs.Readings.{not_read, read_after, read_before, part_of_once, part_of_none}
-use Rattle.admit.specs.Told.{When}
 use Rattle.admit.specs.IsOf.{IsOf}
 use Rattle.admit.specs.Table.{first_some}
 use Rattle.admit.specs.Places.{place_of, spelled, IsSpelled, payload_at, script_at, is_payload}

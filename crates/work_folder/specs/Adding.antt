@@ -9,10 +9,9 @@ use Rattle.artifact_meta.specs.declared.header.HeaderInfo.{HeaderInfo}
 use Rattle.provides_map.specs.Pairs.{Pairs, get}
 use Rattle.provides_map.specs.After.{artifact_name, artifact_group}
 use Rattle.script_names.specs.declared.site.Site.{Site}
-use Rattle.io_model.specs.Source.{Content, bytes_at}
+use Rattle.io_model.specs.Source.{Content, bytes_at, When}
 use Rattle.device_model.specs.declared.calls.Part.{Part}
 use Rattle.device_model.specs.declared.calls.Part.TheVariants.{Tree}
-use Rattle.admit.specs.Told.{When}
 use Rattle.device_model.specs.Work.{File, Work, with_bytes}
 use Rattle.device_model.specs.State.{State, after_work}
 use Rattle.work_folder.specs.Rows.{Row, or_nothing}

@@ -4,9 +4,8 @@ use Rattle.std.specs.List.{AllZip, Contains}
 use Rattle.std.specs.List.Sorted.{IsStrictlySortedBy}
 use Rattle.sha2.specs.Sha256.{sha256}
 use Rattle.upd_text.specs.Order.{byte_cmp}
-use Rattle.io_model.specs.Source.{Content, bytes_at}
+use Rattle.io_model.specs.Source.{Content, bytes_at, When}
 use Rattle.device_model.specs.Work.{File, Synced, Work}
-use Rattle.admit.specs.Told.{When}
 use Rattle.work_folder.specs.Rows.{Row, Value, Names, Copy}
 
 -- a newline behind each

@@ -4,13 +4,12 @@ use Rattle.std.specs.List.{Contains}
 use Rattle.sha2.specs.Sha256.{sha256}
 use Rattle.upd_text.specs.Counts.{counted}
 use Rattle.upd_text.specs.Told.{WhereTold}
-use Rattle.io_model.specs.Source.{Tree, Content, bytes_at, gave}
+use Rattle.io_model.specs.Source.{Tree, Content, bytes_at, gave, When}
 use Rattle.io_model.specs.Reading.{AreRead, IsAtMost}
 use Rattle.device_model.specs.Disk.{IsSettled}
 use Rattle.device_model.specs.Work.{Work}
 use Rattle.device_model.specs.State.{State}
 use Rattle.device_model.specs.How.{How, Through, PowerLost, DiskFailed, Passed}
-use Rattle.admit.specs.Told.{When}
 use Rattle.admit.specs.declared.refusal.Differs.{Differs}
 use Rattle.work_folder.specs.declared.fault.PrepareFault.{PrepareFault}
 use Rattle.work_folder.specs.declared.fault.PrepareFault.TheVariants as fault

@@ -3,7 +3,7 @@
 ghost use Rattle.std.specs.Prelude.{◌≡◌, ◌≤◌, ◌<◌, true, false, length, IfErr, OnOk, OnErr};
 ghost use Rattle.device_model.specs.Disk.{IsSettled, WhereTold};
 ghost use Rattle.admit.specs.IsOf.{IsOf};
-ghost use Rattle.admit.specs.Told.{When};
+ghost use Rattle.io_model.specs.Source.{When};
 ghost use Rattle.admit.specs.Given.{ReadsPayloads};
 ghost use Rattle.work_folder.specs.Rows.{rows_of, copied_of};
 ghost use Rattle.work_folder.specs.Folder.{Stands};

@@ -1,6 +1,5 @@
 use Rattle.std.proofs.Common.{◌≡◌, ◌∙◌, ◌+◌, ◌<◌, ◌++◌, ◌∷◌, [], List, Some, None, sym, subst, arith}
-use Rattle.io_model.specs.Source.{count_of}
-use Rattle.admit.specs.Told.{When}
+use Rattle.io_model.specs.Source.{count_of, When}
 use Rattle.admit.specs.Kept.{IsInfoAt}
 use Rattle.admit.specs.declared.reading.InfoText.{InfoText}
 use Rattle.admit.proofs.Infos.{TextsUpTo, FilesAre, none_more, one_more, file_more, read_then}

@@ -1,7 +1,6 @@
 use Rattle.std.proofs.Common.{◌≡◌, ◌≤◌, ◌-◌, length, take}
-use Rattle.admit.specs.Told.{When}
 use Rattle.std.specs.Prelude.{option_map}
-use Rattle.io_model.specs.Source.{bytes_at, gave, HasNumber}
+use Rattle.io_model.specs.Source.{bytes_at, gave, HasNumber, When}
 use Rattle.manifest_sums.specs.Message.{Has}
 use Rattle.admit.proofs.reading.sum_file.Given as goal
 

@@ -2,7 +2,7 @@ use Rattle.std.proofs.Common.{◌≡◌, drop, length, Bool, List, ℕ, Option}
 use Rattle.std.specs.List.{zip}
 use Rattle.upd_text.specs.Told.{WhereTold}
 use Rattle.io_model.specs.Reading.{AreRead}
-use Rattle.admit.specs.Told.{When}
+use Rattle.io_model.specs.Source.{When}
 use Rattle.admit.specs.Differing.{in_payload, first_differing, picked}
 use Rattle.admit.proofs.sums.first_of_payloads.Given as goal
 

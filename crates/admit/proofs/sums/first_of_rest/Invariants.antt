@@ -1,7 +1,7 @@
 use Rattle.std.proofs.Common.{◌≡◌, drop, length, List, ℕ, Option}
 use Rattle.std.specs.List.{zip}
 use Rattle.upd_text.specs.Told.{WhereTold}
-use Rattle.admit.specs.Told.{When}
+use Rattle.io_model.specs.Source.{When}
 use Rattle.admit.specs.Given.{NoneButThese}
 use Rattle.admit.specs.Differing.{in_rest, first_differing, picked}
 use Rattle.admit.proofs.sums.first_of_rest.Given as goal

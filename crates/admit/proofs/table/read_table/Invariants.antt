@@ -1,5 +1,5 @@
 use Rattle.std.proofs.Common.{◌≡◌, length, take}
-use Rattle.admit.specs.Told.{When}
+use Rattle.io_model.specs.Source.{When}
 use Rattle.admit.specs.Table.{heads_of}
 use Rattle.admit.proofs.table.read_table.Given as goal
 

@@ -1,7 +1,7 @@
 use Rattle.std.proofs.Common.{◌≡◌, sym, ap, ◌∙◌, subst}
 use Rattle.std.specs.Prelude.{Some, Err, false, true}
 use Rattle.upd_text.specs.Told.{WhereTold}
-use Rattle.io_model.specs.Source.{Content}
+use Rattle.io_model.specs.Source.{Content, When}
 use Rattle.provides_map.specs.Pairs.{Pairs}
 use Rattle.flow_table.specs.declared.position.Position.{Position}
 use Rattle.flow_table.specs.declared.position.State.TheVariants as at
@@ -9,7 +9,6 @@ use Rattle.flow_drive.specs.Drive.{Drove}
 use Rattle.record_codec.specs.declared.entry.Db.{Db}
 use Rattle.record_codec.specs.declared.entry.Db.TheVariants.{Full}
 use Rattle.record_codec.specs.Held.{position_of}
-use Rattle.admit.specs.Told.{When}
 use Rattle.admit.specs.Given.{ReadsPayloads}
 use Rattle.work_folder.specs.Prepare.{CopiesAll, CopiesSome}
 use Rattle.work_folder.specs.Rows.{rows_of, copied_of}

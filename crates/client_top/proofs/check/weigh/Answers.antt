@@ -1,7 +1,7 @@
 use Rattle.std.proofs.Common.{◌≡◌, sym, subst}
 use Rattle.std.specs.Prelude.{Ok, true}
 use Rattle.provides_map.specs.Pairs.{Pairs}
-use Rattle.admit.specs.Told.{When}
+use Rattle.io_model.specs.Source.{When}
 use Rattle.admit.specs.Admit.{plan_of}
 use Rattle.client_top.specs.declared.status.Status.{Status}
 use Rattle.client_top.specs.Finds.{begun, check_found}
