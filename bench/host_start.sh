@@ -34,7 +34,7 @@ told "leave the store alone" "$(zeros)" zeros
 "$program" words that are none > out 2> err
 wrong=$?
 told "wrong words" "$wrong $(cat out)" "9 usage 2 0"
-told "list the forms on standard error" "$(head -n 1 err) $(wc -l < err)" "client_cli [--data DIR] COMMAND, where COMMAND is one of 9"
+told "list the forms on standard error" "$(head -n 1 err) $(wc -l < err)" "client_cli [--data DIR] COMMAND, where COMMAND is one of 10"
 "$program" words that are none >&- 2>&-
 told "wrong words with closed streams" "$?" "$wrong"
 told "leave the store alone" "$(zeros)" zeros

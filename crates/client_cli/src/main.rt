@@ -5,7 +5,7 @@ ghost use Rattle.std.specs.Prelude.{IfOk};
 ghost use Rattle.device_mem.specs.Mem.{state_of};
 ghost use Rattle.host_edge.specs.Host.{IsNew};
 
-use client_top::{Status, run};
+use client_top::Status;
 use client_words::{Command, data_dir, read_words, tree_word};
 use device_mem::{AnswerList, AreaBytes, LossList, MemDevice, Script};
 use device_model::{Answer, ROOM};
@@ -13,6 +13,7 @@ use host_edge::{
     HostDevice, HostFault, HostSink, HostSource, cannot_start, fill_streams, words_of,
 };
 use io_model::Sink;
+use lab::top;
 use script_names::{ScriptList, Site};
 use std::alloc::Global;
 use std::fs::File;
@@ -32,7 +33,8 @@ const FORMS: &str = "client_cli [--data DIR] COMMAND, where COMMAND is one of
     rollback
     show-provides
     show-artifact
-    show-deployment";
+    show-deployment
+    simulate SEED ROUNDS";
 
 /// Words that are no command need no device of the host: they are told over one in memory.
 fn plain_device(alloc: Global) -> Result<MemDevice, NoMemory>
@@ -69,7 +71,7 @@ fn tell<R: Files + Drop, O: Sink>(
         return Err(HostFault::NoMemory);
     };
     let mut source = HostSource::none(rt, alloc);
-    Ok(run(alloc, words, &site, &mut source, out, &mut device))
+    Ok(top(alloc, words, &site, &mut source, out, &mut device))
 }
 
 /// The word at an index, where there is one.
@@ -104,7 +106,7 @@ fn act<R: Files<File = File> + Processes + Clock + Drop, O: Sink>(
 ) -> Result<Status, HostFault> {
     let (mut device, site) = HostDevice::attach(&rt, alloc, folder_of(words))?;
     let mut source = source_of(&rt, alloc, words)?;
-    Ok(run(alloc, words, &site, &mut source, out, &mut device))
+    Ok(top(alloc, words, &site, &mut source, out, &mut device))
 }
 
 /// Does what the words say, and tells it. Where they are no command, or one that is done on no device, no data folder is asked

@@ -1,6 +1,5 @@
 pub mod Ends
 pub mod Tallies
-pub mod Devices
 pub mod OneBoot
 pub mod Rows
 pub mod Drawing
@@ -10,3 +9,19 @@ pub mod Resuming
 pub mod Begins
 pub mod Holdings
 pub mod Zeros
+pub mod AddingUp
+pub mod Busy
+pub mod Turning
+pub mod Playing
+pub mod Seeds
+pub mod Beagle
+pub mod Splitting
+pub mod OneWay
+pub mod Deciding
+pub mod Shortness
+pub mod Telling
+pub mod FewRounds
+pub mod Fitting
+pub mod Longest
+pub mod Halted
+pub mod SameBoot

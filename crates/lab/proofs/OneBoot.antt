@@ -1,11 +1,11 @@
 -- One boot of a device in memory.
-use Rattle.std.proofs.Common.{◌≡◌, ℕ, ◌+◌, ◌-◌, ◌≤◌, Bool, false, cond, List, [], ◌∷◌, ◌++◌, length, refl, sym, ap, ◌∙◌, subst, append-nil, arith}
+use Rattle.std.proofs.Common.{◌≡◌, ℕ, ◌+◌, ◌-◌, ◌≤◌, Bool, true, false, cond, List, [], ◌∷◌, ◌++◌, length, refl, sym, ap, ◌∙◌, subst, append-nil, arith}
 use Rattle.std.proofs.lemmas.List.Elements.{All-nil, All-cons}
 use Rattle.std.specs.Prelude.{Option, Some, None, IfSome, Ok, Err, if◌then◌else◌}
 use Rattle.device_model.specs.declared.calls.Event.{Event}
 use Rattle.device_model.specs.declared.calls.Event.TheVariants.{Loss}
 use Rattle.device_model.specs.Events.{Recorded}
-use Rattle.device_model.specs.Disk.{Disk, IsTold, IsWhole, area_of}
+use Rattle.device_model.specs.Disk.{Disk, IsTold, IsWhole, IsSettled, area_of}
 use Rattle.device_model.specs.State.{State}
 use Rattle.io_model.specs.Source.{Content, Tree}
 use Rattle.io_model.specs.Source.Content.{Told, Untold}
@@ -21,7 +21,7 @@ use Rattle.client_words.specs.declared.command.Command.TheVariants.{Install, Res
 use Rattle.client_top.specs.declared.status.Status.{Status}
 use Rattle.client_top.specs.declared.status.Status.TheVariants.{BadStore}
 use Rattle.client_top.specs.Finds.{Request}
-use Rattle.client_top.specs.Answers.{Words, row_of, end_of, Rests}
+use Rattle.client_top.specs.Answers.{Words, row_of, end_of, is_synced, Rests}
 use Rattle.client_top.specs.Asked.{asked_at}
 use Rattle.client_top.specs.Did.{Did, Said, whole, cut, Obeyed, Path}
 use Rattle.client_top.specs.Did as did
@@ -159,6 +159,10 @@ obeyed-campaign site command m on new s s' status room obeyed power done follows
     let p = subst (λ (w : Words). Obeyed (record { command = w; site = site; content = Told s.tree }) (powered m).device new.device (counts_of s) (counts_of s') (record { told = None; faults = 0 }) (record { told = None; faults = 0 }) status) (asked-is command obeyed) o in
     let did = obeyed-did p in
     boot-campaign site command m new s s' status room did.0 did.1 follows_plan (somes new.plan on.plan plan ∙ ap (λ (x : MemState). x.plan) power) told area obeyed (trees tree) (somes s'.failing s.failing failing)
+
+-- where the disk was read through, nothing is unsynced
+pub obeyed-settled : {asked : Request} {old new : State} {source source' : did.Shelf} (status : Status) → Obeyed asked old new source source' (record { told = None; faults = 0 }) (record { told = None; faults = 0 }) status → is_synced (row_of status).basis ≡ true → IsSettled new.disk
+obeyed-settled status o = let d = obeyed-did o in d.1.device.settled
 
 -- with the events that were kept
 pub kept-campaign : (site : Site) (command : Command) (m new : MemState) (s s' : Shelf) (status : Status) (kept : Recorded) → kept.events ≡ new.device.journal →

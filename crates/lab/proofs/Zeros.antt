@@ -23,7 +23,7 @@ same-db : {a b : Db} → ◌≡◌ {A = Result Db ℕ} (Ok a) (Ok b) → a ≡ b
 same-db h = cc
 
 -- nothing but the empty database may stand on it
-zeros-hold : (disk : Disk) → disk.area ≡ replicate 266240 0 → disk.unsynced ≡ unmarked disk.unsynced → (c : Db) → May (Some disk) c → c ≡ Empty
+pub zeros-hold : (disk : Disk) → disk.area ≡ replicate 266240 0 → disk.unsynced ≡ unmarked disk.unsynced → (c : Db) → May (Some disk) c → c ≡ Empty
 zeros-hold disk zeros settled c may =
     same-db (sym may.stands ∙ ap stood (settled-area disk settled may.area may.held ∙ zeros) ∙ zeros-stand)
 

@@ -6,3 +6,6 @@ pub mod Holding
 pub mod Draws
 pub mod Trees
 pub mod Cuts
+pub mod Simulation
+pub mod Rounds
+pub mod Top

@@ -1,7 +1,9 @@
 //! Boots in a row.
 
-ghost use Rattle.std.specs.Prelude.{◌≡◌, ◌≤◌, ◌+◌, false, [], ◌∷◌, ℕ, All, length, IfOk};
+ghost use Rattle.std.specs.Prelude.{◌≡◌, ◌≤◌, ◌+◌, true, false, [], ◌∷◌, ℕ, All, length, IfOk};
+ghost use Rattle.device_model.specs.Disk.{IsSettled};
 ghost use Rattle.device_mem.specs.Mem.{mem_of, state_of};
+ghost use Rattle.client_top.specs.Answers.{row_of, is_synced};
 ghost use Rattle.lab.specs.Campaign.{Campaigned, Campaigns, simulates};
 ghost use Rattle.lab.specs.declared.runs.BootRun.{BootRun as Run};
 
@@ -25,15 +27,16 @@ fn obey_after_power_on(
 ) -> Status
     requires room { ROOM ≤ (state_of device.old).room + length (state_of device.old).journal }
     requires obeyed { simulates command ≡ false }
-    ensures { (room : ℕ) → Campaigned site.now (command ∷ []) (mem_of device.old) (mem_of device.new) source.old source.new
+    ensures campaign { (room : ℕ) → Campaigned site.now (command ∷ []) (mem_of device.old) (mem_of device.new) source.old source.new
         ((record { command = command; events = record { events = (state_of device.new).journal; room = room }; status = result }) ∷ []) }
+    ensures settled { is_synced (row_of result).basis ≡ true → IsSettled (state_of device.new).disk }
 {
     device.power_on();
     obey(alloc, command, site, source, &mut NoSink::new(), device)
 }
 
 /// One boot. It was made also where there is no memory to keep what it did.
-fn boot(
+pub(crate) fn boot(
     alloc: Global,
     command: Command,
     site: &Site,
@@ -42,7 +45,8 @@ fn boot(
 ) -> Result<BootRun, NoMemory>
     requires room { ROOM ≤ (state_of device.old).room + length (state_of device.old).journal }
     requires obeyed { simulates command ≡ false }
-    ensures { (run : Run) × Campaigned site.now (command ∷ []) (mem_of device.old) (mem_of device.new) source.old source.new (run ∷ []) × IfOk result (λ r. r ≡ run) }
+    ensures campaign { (run : Run) × Campaigned site.now (command ∷ []) (mem_of device.old) (mem_of device.new) source.old source.new (run ∷ []) × IfOk result (λ r. r ≡ run) }
+    ensures settled { IfOk result (λ r. is_synced (row_of r.status).basis ≡ true → IsSettled (state_of device.new).disk) }
 {
     let status = obey_after_power_on(alloc, command, site, source, device);
     let events = kept(alloc, device.journal())?;

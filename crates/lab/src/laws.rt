@@ -1,14 +1,15 @@
 //! Laws of boots and of scripts.
 
-ghost use Rattle.std.specs.Prelude.{◌≡◌, ◌≢◌, ℕ, ◌+◌, ◌-◌, ◌^◌, ◌<◌, ◌≤◌, List, [], All, length, replicate, Some};
+ghost use Rattle.std.specs.Prelude.{◌≡◌, ◌≢◌, ℕ, ◌+◌, ◌-◌, ◌^◌, ◌<◌, ◌≤◌, List, [], ◌∷◌, All, length, map, replicate, Some};
 ghost use Rattle.device_model.specs.declared.calls.Event.{Event};
-ghost use Rattle.io_model.specs.Source.{Content};
+ghost use Rattle.io_model.specs.Source.{Content, Tree};
 ghost use Rattle.io_model.specs.Source.Content.{Told};
 ghost use Rattle.io_model.specs.MemSource.{Shelf};
 ghost use Rattle.device_model.specs.Disk.{Disk, unmarked};
 ghost use Rattle.slot_store.specs.Slots.{May};
 ghost use Rattle.device_mem.specs.MemState.{MemState};
 ghost use Rattle.client_words.specs.declared.command.Command.{Command};
+ghost use Rattle.client_words.specs.declared.command.Command.TheVariants.{Install, Resume};
 ghost use Rattle.script_names.specs.declared.site.Site.{Site};
 ghost use Rattle.flow_table.specs.declared.position.State.TheVariants.{Idle};
 ghost use Rattle.flow_table.specs.Bound.{Nearer};
@@ -21,9 +22,11 @@ ghost use Rattle.device_mem.specs.Losses.{count_losses};
 ghost use Rattle.lab.specs.declared.runs.BootRun.{BootRun as Run};
 ghost use Rattle.lab.specs.Bound.{IsResume};
 ghost use Rattle.lab.specs.Path.{Step, Path};
-ghost use Rattle.lab.specs.Campaign.{Campaigned};
+ghost use Rattle.lab.specs.Campaign.{Campaigned, events_of};
 ghost use Rattle.lab.specs.Holding.{HeldAfter};
 ghost use Rattle.lab.specs.Cuts.{cuts_between};
+ghost use Rattle.lab.specs.declared.counts.Counts.{Counts as Counted};
+ghost use Rattle.lab.specs.Simulation.{Simulated, AddsUp, GoesOn};
 
 use device_model::AREA;
 
@@ -56,4 +59,18 @@ pub fn losses_come_from_cuts()
     ensures losses { (script : Script) (t s : ℕ) (events : List Event) (t' s' : ℕ) → script.losses ≡ [] → s' < 2 ^ 64 - 1
         → Fits script t s events t' s' → count_losses events ≤ cuts_between s s' script.cuts }
     ensures most { (s s' : ℕ) (cuts : List ℕ) → cuts_between s s' cuts ≤ length cuts }
+{}
+
+/// The four counts of a simulation add up to its rounds.
+pub fn simulations_add_up()
+    ensures sum { (seed rounds : ℕ) (counts : Counted) → Simulated seed rounds counts → AddsUp counts }
+    ensures all { (seed rounds : ℕ) (counts : Counted) → Simulated seed rounds counts → counts.rounds ≡ rounds }
+{}
+
+/// Each boot of a round that goes on counts a state of its deployment, also one that loses its power. So there are at most 28 of
+/// them, a round ends with its 29th boot at the latest, and none is given up for the number of its boots.
+pub fn rounds_are_short()
+    ensures { (site : Site) (tree : Tree) (script : Script) (times : ℕ) (d : Db) (runs : List Run) (t s : ℕ) → script.losses ≡ []
+        → Path site (Told tree) Empty runs d → map (λ (r : Run). r.command) runs ≡ Install ∷ replicate times Resume
+        → All (λ (r : Run). GoesOn r.status) runs → Fits script 0 0 (events_of runs) t s → length runs ≤ 28 }
 {}

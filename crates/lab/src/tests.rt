@@ -2,8 +2,9 @@
 
 mod losses;
 mod rounds;
+mod simulations;
 
-ghost use Rattle.std.specs.Prelude.{◌≡◌, ◌≤◌, false, All, IfOk};
+ghost use Rattle.std.specs.Prelude.{◌≡◌, ◌≤◌, true, false, [], All, IfOk};
 ghost use Rattle.device_mem.specs.Mem.{state_of};
 ghost use Rattle.lab.specs.Campaign.{simulates};
 
@@ -71,7 +72,9 @@ fn script_of(alloc: Global, supports: &[u8]) -> Script {
 }
 
 fn new_device(alloc: Global, script: Script) -> Result<MemDevice, NoMemory>
-    ensures { IfOk result (λ d. ROOM ≤ (state_of d).room) }
+    ensures on { IfOk result (λ d. (state_of d).on ≡ true) }
+    ensures journal { IfOk result (λ d. (state_of d).journal ≡ []) }
+    ensures room { IfOk result (λ d. ROOM ≤ (state_of d).room) }
 {
     MemDevice::new(alloc, AreaBytes::zeros(alloc)?, ROOM, script)
 }

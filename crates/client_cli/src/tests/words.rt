@@ -14,8 +14,15 @@ fn wrong_words_ask_for_no_folder(rt: HostRuntime) -> Result<(), Fail> {
         ("--data d", "9 usage 1\n"),
         ("--help", "9 usage 2 0\n"),
         ("--data d instal tree", "9 usage 2 2\n"),
-        ("simulate 1 2", "9 usage 2 0\n"),
-        ("--data d simulate 1 2", "9 usage 2 2\n"),
+        (
+            "simulate 1 0",
+            "0 rounds 0 committed 0 rolled-back 0 inconsistent 0 kept 0\n",
+        ),
+        (
+            "--data d simulate 1 0",
+            "0 rounds 0 committed 0 rolled-back 0 inconsistent 0 kept 0\n",
+        ),
+        ("--data d simulate 1 1001", "9 usage 5 4\n"),
         ("install", "9 usage 3\n"),
         ("commit now", "9 usage 4 1\n"),
         ("resume --stop-before Download", "9 usage 4 2\n"),
