@@ -6,22 +6,10 @@ mod place;
 
 use crate::place::HostPlace;
 use file_module::{FileAct, act};
-use host_edge::{HostFault, HostSink, HostSource, cannot_start, fill_streams, words_of};
+use host_edge::{HostFault, HostSink, cannot_start, fill_streams, source_of, words_of};
 use std::alloc::Global;
 use std::process::ExitCode;
 use std::rt::Files;
-
-/// The files of the folder that the second word names, or none where there is no such word.
-fn source_of<R: Files + Drop>(
-    rt: R,
-    alloc: Global,
-    words: &[String],
-) -> Result<HostSource<R>, HostFault> {
-    match words {
-        [_, folder, ..] => HostSource::attach(rt, alloc, folder.as_str()),
-        _ => Ok(HostSource::none(rt, alloc)),
-    }
-}
 
 /// The place above the folder that the second word names. Without such a word nothing is done there.
 fn place_of<R: Files + Drop>(

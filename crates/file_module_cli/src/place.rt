@@ -1,14 +1,13 @@
 //! A place of real files.
 
 ghost use Rattle.std.specs.Prelude.{◌≡◌, IfOk};
-ghost use Rattle.host_edge.specs.Faults.{answer_of, count_of};
 ghost use Rattle.file_module_cli.specs.Untold.{untold};
 
 use crate::files::Kept;
 use device_model::Down;
 use file_module::{Place, Slot};
+use host_edge::answered;
 use std::alloc::{AllocError, Global};
-use std::io;
 use std::rt::Files;
 
 /// Three files in one folder. It tells nothing of what they hold, and counts each call that failed. It never answers `Off`.
@@ -17,20 +16,6 @@ pub struct HostPlace<R: Files + Drop> {
     files: Kept<R>,
     settled: bool,
     failed: u64,
-}
-
-/// Counts a call that failed.
-fn settle<T>(failed: &mut u64, done: io::Result<T>) -> Result<T, Down>
-    ensures answer { result ≡ answer_of Down.Fault done }
-    ensures count { failed.new ≡ count_of failed.old done }
-{
-    match done {
-        Ok(value) => Ok(value),
-        Err(_) => {
-            *failed = failed.saturating_add(1);
-            Err(Down::Fault)
-        }
-    }
 }
 
 impl<R: Files + Drop> HostPlace<R> {
@@ -51,45 +36,45 @@ impl<R: Files + Drop> Place for HostPlace<R> {
 
     fn length(&mut self, slot: Slot) -> Result<Option<u64>, Down> {
         let found = self.files.length(slot);
-        settle(&mut self.failed, found)
+        answered(&mut self.failed, found)
     }
 
     fn read(&mut self, slot: Slot, at: u64, into: &mut [u8]) -> Result<(), Down> {
         let done = self.files.read(slot, at, into);
-        settle(&mut self.failed, done)
+        answered(&mut self.failed, done)
     }
 
     fn start(&mut self) -> Result<(), Down> {
         let done = self.files.start();
-        settle(&mut self.failed, done)?;
+        answered(&mut self.failed, done)?;
         self.settled = false;
         Ok(())
     }
 
     fn append(&mut self, bytes: &[u8]) -> Result<(), Down> {
         let done = self.files.append(bytes);
-        settle(&mut self.failed, done)?;
+        answered(&mut self.failed, done)?;
         self.settled = false;
         Ok(())
     }
 
     fn settle(&mut self) -> Result<(), Down> {
         let done = self.files.settle();
-        settle(&mut self.failed, done)?;
+        answered(&mut self.failed, done)?;
         self.settled = true;
         Ok(())
     }
 
     fn move_to(&mut self, slot: Slot) -> Result<(), Down> {
         let done = self.files.move_to(slot);
-        settle(&mut self.failed, done)?;
+        answered(&mut self.failed, done)?;
         self.settled = true;
         Ok(())
     }
 
     fn remove(&mut self, slot: Slot) -> Result<(), Down> {
         let done = self.files.remove(slot);
-        settle(&mut self.failed, done)?;
+        answered(&mut self.failed, done)?;
         if slot == Slot::Fresh {
             self.settled = true;
         }

@@ -1,10 +1,10 @@
 //! The device over real files and programs.
 
 ghost use Rattle.std.specs.Prelude.{◌≡◌, ◌-◌, ◌<◌, IfOk, [], ◌∷◌, ◌++◌};
-ghost use Rattle.host_edge.specs.Faults.{answer_of, count_of};
 ghost use Rattle.host_edge.specs.Host.{host_state};
 
 use crate::children;
+use crate::counting::answered;
 use crate::disk::open_store;
 use crate::fault::HostFault;
 use crate::paths::Paths;
@@ -35,20 +35,6 @@ pub struct HostDevice<R: Files<File = File> + Processes + Clock + Drop> {
     tail: Option<Tail>,
     journal: EventList,
     failed: u64,
-}
-
-/// Counts a call that failed.
-fn settle(failed: &mut u64, done: io::Result<()>) -> Result<(), Down>
-    ensures answer { result ≡ answer_of Down.Fault done }
-    ensures count { failed.new ≡ count_of failed.old done }
-{
-    match done {
-        Ok(()) => Ok(()),
-        Err(_) => {
-            *failed = failed.saturating_add(1);
-            Err(Down::Fault)
-        }
-    }
 }
 
 /// Notes an event, for which there is room.
@@ -186,35 +172,35 @@ impl<R: Files<File = File> + Processes + Clock + Drop> Device for HostDevice<R> 
 
     fn disk_read(&mut self, at: u32, into: &mut [u8]) -> Result<(), Down> {
         let done = self.store.read_exact_at(into, u64::from(at));
-        settle(&mut self.failed, done)
+        answered(&mut self.failed, done)
     }
 
     fn disk_write(&mut self, at: u32, bytes: &[u8]) -> Result<(), Down> {
         let done = self.store.write_all_at(bytes, u64::from(at));
-        settle(&mut self.failed, done)
+        answered(&mut self.failed, done)
     }
 
     fn disk_sync(&mut self) -> Result<(), Down> {
         let done = self.store.sync_data();
-        settle(&mut self.failed, done)
+        answered(&mut self.failed, done)
     }
 
     fn work_clear(&mut self) -> Result<(), Down> {
         self.tail = None;
         let done = work::clear(&self.rt, self.alloc, &self.paths);
-        settle(&mut self.failed, done)
+        answered(&mut self.failed, done)
     }
 
     fn work_append(&mut self, part: Part, path: &Name, bytes: &[u8]) -> Result<(), Down> {
         let last = &mut self.tail;
         let done = work::append(&self.rt, self.alloc, &self.paths, last, part, path, bytes);
-        settle(&mut self.failed, done)
+        answered(&mut self.failed, done)
     }
 
     fn work_sync(&mut self) -> Result<(), Down> {
         self.tail = None;
         let done = work::sync(&self.rt, self.alloc, &self.paths);
-        settle(&mut self.failed, done)
+        answered(&mut self.failed, done)
     }
 
     fn run_child(&mut self, call: &Call) -> Ran {

@@ -69,7 +69,7 @@ fn open_file<R: Files<File = File>>(rt: &R, path: &str) -> io::Result<File> {
 }
 
 /// Holds the file for this client alone. Where another client holds it, it is tried again for two seconds.
-fn hold<R: Clock>(rt: &R, store: &File) -> io::Result<()> {
+pub fn hold<R: Clock>(rt: &R, store: &File) -> io::Result<()> {
     for _ in 0..TRIES {
         match store.try_lock() {
             Ok(()) => return Ok(()),

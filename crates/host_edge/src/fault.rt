@@ -46,7 +46,7 @@ impl HostFault {
     }
 
     /// Want of memory shows as itself, each other error as `other`.
-    pub(crate) fn of(error: &io::Error, other: HostFault) -> HostFault
+    pub fn of(error: &io::Error, other: HostFault) -> HostFault
         ensures memory { error_kind error.now ≡ ErrorKind.OutOfMemory → result ≡ HostFault.NoMemory }
         ensures other { error_kind error.now ≢ ErrorKind.OutOfMemory → result ≡ other }
     {

@@ -2,6 +2,7 @@
 #![tactic(auto)]
 
 mod children;
+mod counting;
 mod device;
 mod disk;
 mod fault;
@@ -14,10 +15,12 @@ mod start;
 mod words;
 mod work;
 
+pub use counting::answered;
 pub use device::HostDevice;
+pub use disk::hold;
 pub use fault::HostFault;
 pub use sink::HostSink;
-pub use source::HostSource;
+pub use source::{HostSource, source_of};
 pub use start::{cannot_start, fill_streams};
 pub use words::words_of;
 

@@ -121,6 +121,20 @@ impl<R: Files + Drop> HostSource<R> {
     }
 }
 
+/// The files of the folder that the second word of a module names, or none where there is no such word.
+pub fn source_of<R: Files + Drop>(
+    rt: R,
+    alloc: Global,
+    words: &[String],
+) -> Result<HostSource<R>, HostFault>
+    ensures { IfOk result (λ s. s.failed ≡ 0) }
+{
+    match words {
+        [_, folder, ..] => HostSource::attach(rt, alloc, folder.as_str()),
+        _ => Ok(HostSource::none(rt, alloc)),
+    }
+}
+
 /// Counts a call that failed.
 fn fault(failed: &mut u64) -> SourceFault
     ensures { failed.new ≡ counted failed.old }

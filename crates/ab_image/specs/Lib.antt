@@ -1,0 +1,13 @@
+pub mod Layout
+pub mod Blocks
+pub mod Words
+pub mod Artifact
+pub mod Finding
+pub mod Act
+pub mod Numbers
+pub mod Parts
+pub mod Choosing
+pub mod MemBlocks
+pub mod Mem
+pub mod Calls
+pub mod Taking

@@ -1,0 +1,87 @@
+//! One call of the module.
+
+ghost use Rattle.std.specs.Prelude.{◌≡◌, ◌<◌, ℕ, true, length, Some};
+ghost use Rattle.io_model.specs.Source.{Content};
+ghost use Rattle.ab_image.specs.Act.{Acts, ActsFor, IsAlone, answer_of};
+
+use crate::blocks::Blocks;
+use crate::committing::commit;
+use crate::downloading::download;
+use crate::replying::reply;
+use crate::report::AbAct;
+use crate::settling::{clean_up, roll_back};
+use crate::words::{Word, read_words};
+use device_model::{Down, ModState};
+use io_model::{Sink, Source};
+use std::alloc::Global;
+
+/// What a state of the module or a query does. The blocks are on, and the buffer isn't empty.
+pub fn act<S: Source, B: Blocks, O: Sink>(
+    alloc: Global,
+    words: &[String],
+    source: &mut S,
+    blocks: &mut B,
+    out: &mut O,
+    buffer: &mut [u8],
+) -> AbAct
+    requires on { (B.means blocks.old).on ≡ true }
+    requires room { 0 < length buffer.old }
+    ensures same { S.content source.new ≡ S.content source.old }
+    ensures plan { S.plan source.new ≡ S.plan source.old }
+    ensures acts { Acts words.now (S.content source.old) (record { source_faults = S.faults source.old; blocks = B.means blocks.old; sink = O.means out.old }) (record { source_faults = S.faults source.new; blocks = B.means blocks.new; sink = O.means out.new }) result }
+{
+    match read_words(words) {
+        None => AbAct::Usage,
+        Some(word) => act_for(alloc, word, source, blocks, out, buffer),
+    }
+}
+
+/// What a word does.
+fn act_for<S: Source, B: Blocks, O: Sink>(
+    alloc: Global,
+    word: Word,
+    source: &mut S,
+    blocks: &mut B,
+    out: &mut O,
+    buffer: &mut [u8],
+) -> AbAct
+    requires on { (B.means blocks.old).on ≡ true }
+    requires room { 0 < length buffer.old }
+    ensures same { S.content source.new ≡ S.content source.old }
+    ensures plan { S.plan source.new ≡ S.plan source.old }
+    ensures acts { ActsFor (Some word) (S.content source.old) (record { source_faults = S.faults source.old; blocks = B.means blocks.old; sink = O.means out.old }) (record { source_faults = S.faults source.new; blocks = B.means blocks.new; sink = O.means out.new }) result }
+{
+    match word {
+        Word::State(ModState::Download) => download(alloc, source, blocks, buffer),
+        Word::State(ModState::ArtifactCommit) => commit(alloc, source, blocks, buffer),
+        _ => act_alone(word, blocks, out),
+    }
+}
+
+/// What a word does that reads no artifact.
+fn act_alone<B: Blocks, O: Sink>(word: Word, blocks: &mut B, out: &mut O) -> AbAct
+    requires on { (B.means blocks.old).on ≡ true }
+    requires alone { IsAlone (Some word) }
+    ensures acts { (content : Content) (faults : ℕ) → ActsFor (Some word) content (record { source_faults = faults; blocks = B.means blocks.old; sink = O.means out.old }) (record { source_faults = faults; blocks = B.means blocks.new; sink = O.means out.new }) result }
+{
+    match word {
+        Word::Ask(query) => match reply(query, out) {
+            Ok(()) => AbAct::Done,
+            Err(_) => AbAct::SinkFault,
+        },
+        Word::State(ModState::ArtifactRollback) => ended(roll_back(blocks)),
+        Word::State(ModState::Cleanup) => ended(clean_up(blocks)),
+        Word::State(_) => AbAct::Done,
+    }
+}
+
+/// The answer of a state that reads no artifact.
+fn ended(end: Result<(), Down>) -> AbAct
+    ensures { result ≡ answer_of end }
+{
+    match end {
+        Ok(()) => AbAct::Done,
+        Err(Down::Off) => AbAct::Off,
+        Err(Down::Fault) => AbAct::DiskFault,
+    }
+}
