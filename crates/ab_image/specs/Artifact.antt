@@ -7,6 +7,7 @@ use Rattle.std.specs.Result.{result_ok}
 use Rattle.io_model.specs.Source.{File, Tree}
 use Rattle.provides_map.specs.Pairs.{get}
 use Rattle.manifest_sums.specs.Manifest.{sum_of}
+use Rattle.ab_image.specs.declared.artifact.TheConstants.{MOST}
 use Rattle.artifact_meta.specs.declared.info.TypeInfo.{TypeInfo}
 use Rattle.artifact_meta.specs.Meta.{type_info_of}
 
@@ -36,7 +37,7 @@ sum_listed info = option_and_then sum_of (get info.provides (codes "rootfs-image
 
 -- the sum that these bytes list, unless they are too many or no type-info
 unfoldable pub listed_in : List ℕ → Option (List ℕ)
-listed_in bytes = if nat_lt 65536 (length bytes) then None else option_and_then sum_listed (result_ok (type_info_of bytes))
+listed_in bytes = if nat_lt MOST (length bytes) then None else option_and_then sum_listed (result_ok (type_info_of bytes))
 
 -- the sum that an artifact lists for its image
 abbrev pub listed : Tree → Option (List ℕ)

@@ -6,6 +6,7 @@ use Rattle.io_model.specs.Source.{File, Tree, Content, When, bytes_at}
 use Rattle.artifact_meta.specs.declared.fault.MetaFault.{MetaFault}
 use Rattle.artifact_meta.specs.declared.fault.MetaFault.TheVariants as meta
 use Rattle.ab_image.specs.declared.artifact.Found.{Found}
+use Rattle.ab_image.specs.declared.artifact.TheConstants.{MOST}
 use Rattle.ab_image.specs.declared.image.Image.{Image}
 use Rattle.ab_image.specs.declared.report.AbAct.{AbAct}
 use Rattle.ab_image.specs.declared.report.AbAct.TheVariants as answer
@@ -69,7 +70,7 @@ Stops old (Err stop) new = new ≡ faults_after old stop
 
 -- the file isn't read as a type-info: it has more than 65,536 bytes; a fault and want of memory are free
 abbrev pub NoText : Content → ℕ → AbAct → Type 0
-NoText content i answer.NoChecksum = When content (λ tree. 65536 < length (bytes_at tree i))
+NoText content i answer.NoChecksum = When content (λ tree. MOST < length (bytes_at tree i))
 NoText content i answer.SourceFault = ⊤
 NoText content i answer.NoMemory = ⊤
 NoText content i _ = ⊥

@@ -3,33 +3,34 @@ use Rattle.std.specs.Prelude.{◌≡◌, ◌⊎◌, ℕ, ◌+◌, ◌-◌, ◌/�
 use Rattle.std.specs.Int.{w64, to_be_bytes, from_be_bytes}
 use Rattle.sha2.specs.Sha256.{sha256}
 use Rattle.device_model.specs.Disk.{Disk, MayHold, IsApart}
+use Rattle.ab_image.specs.declared.layout.TheConstants.{CHOICE, ORIGIN, RECORD_0, RECORD_1, RECORD, FIRST}
 use Rattle.ab_image.specs.declared.partition.Partition.{Partition}
 use Rattle.ab_image.specs.declared.partition.Partition.TheVariants.{Zero, One}
 
 -- ---- where things stand
 
 abbrev pub choice_at : ℕ
-choice_at = 0
+choice_at = CHOICE
 
 abbrev pub origin_at : ℕ
-origin_at = 1024
+origin_at = ORIGIN
 
 -- the record beside a partition
 abbrev pub record_at : Partition → ℕ
-record_at Zero = 2048
-record_at One = 3072
+record_at Zero = RECORD_0
+record_at One = RECORD_1
 
 -- how many bytes a record has: a length and a sum
 abbrev pub record_size : ℕ
-record_size = 40
+record_size = RECORD
 
 -- how many bytes each partition has, in an area of so many bytes
 abbrev pub partition_size : ℕ → ℕ
-partition_size size = (size - 4096) / 2
+partition_size size = (size - FIRST) / 2
 
 abbrev pub partition_at : ℕ → Partition → ℕ
-partition_at size Zero = 4096
-partition_at size One = 4096 + partition_size size
+partition_at size Zero = FIRST
+partition_at size One = FIRST + partition_size size
 
 -- apart from a partition and its record
 abbrev pub IsBeside : (size : ℕ) → Partition → ℕ → Type 0

@@ -14,7 +14,7 @@ use std::alloc::Global;
 use upd_text::Name;
 
 /// The most bytes that a type-info may have.
-const MOST: u64 = 65_536;
+pub const MOST: u64 = 65_536;
 
 /// How many files are images, the first of them, and the first that is the type-info.
 #[derive(Clone, Copy, Debug, PartialEq, Eq)]
@@ -88,7 +88,7 @@ fn read_text<S: Source>(alloc: Global, source: &mut S, i: u32) -> Result<Vec<u8>
     ensures same { S.content source.new ≡ S.content source.old }
     ensures plan { S.plan source.new ≡ S.plan source.old }
     ensures stops { Stops (S.faults source.old) result (S.faults source.new) }
-    ensures few { IfOk result (λ text. length text.items ≤ 65536) }
+    ensures few { IfOk result (λ text. length text.items ≤ MOST) }
     ensures text { IfOk result (λ text. When (S.content source.old) (λ tree. text.items ≡ bytes_at tree i)) }
     ensures none { IfErr result (λ stop. NoText (S.content source.old) i stop) }
 {

@@ -12,7 +12,7 @@ ghost use Rattle.ab_image.specs.Act.{SourceEnds};
 ghost use Rattle.ab_image.specs.Taking.{ended, StopsCopy, Spares, HasFront};
 
 use crate::blocks::Blocks;
-use crate::layout::{least, partition_at, record_at};
+use crate::layout::{RECORD, least, partition_at, record_at};
 use crate::partition::Partition;
 use crate::report::{AbAct, stopped};
 use crate::settling::write_through;
@@ -106,10 +106,10 @@ pub(crate) fn copy_image<S: Source, B: Blocks>(
 }
 
 /// The record of an image with this length and sum.
-fn record_of(size: u64, sum: &Sum) -> [u8; 40]
+fn record_of(size: u64, sum: &Sum) -> [u8; RECORD]
     ensures { result ≡ to_be_bytes w64 size ++ sum.now }
 {
-    let mut record = [0u8; 40];
+    let mut record = [0u8; RECORD];
     record[..8].copy_from_slice(&size.to_be_bytes());
     record[8..].copy_from_slice(sum.bytes().as_slice());
     record

@@ -5,18 +5,30 @@ ghost use Rattle.ab_image.specs.Layout.{partition_size, partition_at, record_at}
 
 use crate::partition::Partition;
 
+/// How many bytes a disk has at the least.
+pub const LEAST_SIZE: u64 = 8_192;
+
 /// Where the choice byte stands.
-pub(crate) const CHOICE: u64 = 0;
+pub const CHOICE: u64 = 0;
 
 /// Where the origin byte stands.
-pub(crate) const ORIGIN: u64 = 1024;
+pub const ORIGIN: u64 = 1_024;
 
-/// Where the first partition begins.
-const FIRST: u64 = 4_096;
+/// Where the record of partition 0 stands.
+pub const RECORD_0: u64 = 2_048;
+
+/// Where the record of partition 1 stands.
+pub const RECORD_1: u64 = 3_072;
+
+/// How many bytes a record has: a length and a sum.
+pub const RECORD: usize = 40;
+
+/// Where partition 0 begins.
+pub const FIRST: u64 = 4_096;
 
 /// How many bytes each partition has, on a disk of this size.
 pub(crate) fn partition_size(size: u64) -> u64
-    requires { 8192 ≤ size }
+    requires { LEAST_SIZE ≤ size }
     ensures { result ≡ partition_size size }
 {
     (size - FIRST) / 2
@@ -24,7 +36,7 @@ pub(crate) fn partition_size(size: u64) -> u64
 
 /// Where a partition begins.
 pub(crate) fn partition_at(size: u64, partition: Partition) -> u64
-    requires least { 8192 ≤ size }
+    requires least { LEAST_SIZE ≤ size }
     ensures start { result ≡ partition_at size partition }
     ensures fits { result + partition_size size ≤ size }
 {
@@ -39,8 +51,8 @@ pub(crate) fn record_at(partition: Partition) -> u64
     ensures { result ≡ record_at partition }
 {
     match partition {
-        Partition::Zero => 2_048,
-        Partition::One => 3_072,
+        Partition::Zero => RECORD_0,
+        Partition::One => RECORD_1,
     }
 }
 

@@ -2,6 +2,7 @@
 
 ghost use Rattle.std.specs.Prelude.{◌≡◌, ◌+◌, ◌≤◌, ◌<◌, ◌^◌, length, true, IfOk};
 ghost use Rattle.upd_text.specs.Counts.{counted};
+ghost use Rattle.ab_image.specs.declared.layout.TheConstants.{LEAST_SIZE};
 
 use crate::blocks::Blocks;
 use device_mem::{LossList, MemDisk, Moment, Tear, moment_at};
@@ -19,7 +20,7 @@ pub struct MemBlocks {
     calls: u64,
     losses: u64,
     faults: u64,
-    ghost least: { 8192 ≤ length disk.area.items },
+    ghost least: { LEAST_SIZE ≤ length disk.area.items },
     ghost most: { length disk.area.items < 2 ^ 60 },
 }
 
@@ -41,7 +42,7 @@ impl MemBlocks {
         losses: LossList,
         faults: CallList,
     ) -> Result<MemBlocks, NoMemory>
-        requires { 8192 ≤ size }
+        requires { LEAST_SIZE ≤ size }
         ensures { IfOk result (λ m. mem_of m ≡ fresh size losses faults) }
     {
         Ok(MemBlocks {

@@ -9,7 +9,7 @@ ghost use Rattle.ab_image.specs.Layout.{partition_size, partition_at, IsReady};
 ghost use Rattle.ab_image.specs.Parts.{Calm};
 
 use crate::blocks::Blocks;
-use crate::layout::{least, partition_at, partition_size, record_at};
+use crate::layout::{RECORD, least, partition_at, partition_size, record_at};
 use crate::partition::Partition;
 use device_model::Down;
 use manifest_sums::{Sum, Summing};
@@ -64,7 +64,7 @@ fn sum_front<B: Blocks>(
 }
 
 /// The length that a record names.
-fn length_in(bytes: &[u8; 40]) -> u64
+fn length_in(bytes: &[u8; RECORD]) -> u64
     ensures { result ≡ from_be_bytes w64 (take 8 bytes.now) }
 {
     u64::from_be_bytes([
@@ -73,7 +73,7 @@ fn length_in(bytes: &[u8; 40]) -> u64
 }
 
 /// Whether a record names at most so many bytes and this sum.
-fn names(bytes: &[u8; 40], most: u64, sum: &Sum) -> bool
+fn names(bytes: &[u8; RECORD], most: u64, sum: &Sum) -> bool
     ensures { IsTrue result ↔ ((from_be_bytes w64 (take 8 bytes.now) ≤ most) × (drop 8 bytes.now ≡ sum.now)) }
 {
     length_in(bytes) <= most && &bytes[8..] == sum.bytes().as_slice()
@@ -92,7 +92,7 @@ pub(crate) fn is_ready<B: Blocks>(
     ensures same { IfOk result (λ yes. B.means blocks.new ≡ B.means blocks.old) }
     ensures ready { IfOk result (λ yes. IfSome (area_of (B.means blocks.old).disk) (λ area. IsTrue yes ↔ IsReady area partition listed.now)) }
 {
-    let mut record = [0u8; 40];
+    let mut record = [0u8; RECORD];
     match blocks.read(record_at(partition), &mut record) {
         Ok(()) => {}
         Err(down) => return Err(down),

@@ -1,8 +1,9 @@
 //! Blocks of real bytes.
 
 ghost use Rattle.std.specs.Prelude.{◌≡◌, ◌≤◌, ◌<◌, ◌^◌, IfOk};
+ghost use Rattle.ab_image.specs.declared.layout.TheConstants.{LEAST_SIZE};
 
-use ab_image::Blocks;
+use ab_image::{Blocks, LEAST_SIZE};
 use device_model::Down;
 use host_edge::{HostFault, answered, hold};
 use std::alloc::Global;
@@ -18,7 +19,7 @@ pub struct HostBlocks {
     file: File,
     size: u64,
     failed: u64,
-    ghost least: { 8192 ≤ size },
+    ghost least: { LEAST_SIZE ≤ size },
     ghost most: { size < 2 ^ 60 },
 }
 
@@ -57,7 +58,7 @@ impl HostBlocks {
     {
         let path = format!(in alloc; "{folder}/../../blocks")?;
         match open_disk(rt, path.as_str()) {
-            Ok((file, size)) if size >= 8_192 && size < 1 << 60 => Ok(HostBlocks {
+            Ok((file, size)) if size >= LEAST_SIZE && size < 1 << 60 => Ok(HostBlocks {
                 file,
                 size,
                 failed: 0,
