@@ -1,5 +1,6 @@
 -- A simulation: rounds that are drawn from a seed, each an update that is made on a new device until its deployment ends.
 use Rattle.std.specs.Prelude.{◌≡◌, ◌≢◌, ℕ, zero, suc, ◌+◌, List, [], ◌∷◌, length, replicate, codes, Some, All, ⊤}
+use Rattle.device_model.specs.declared.device.TheConstants.{AREA, ROOM}
 use Rattle.io_model.specs.Source.{Content, Tree}
 use Rattle.io_model.specs.Source.Content.{Told}
 use Rattle.io_model.specs.MemSource.{Shelf}
@@ -32,7 +33,7 @@ use Rattle.lab.specs.Trees.{tree_of}
 
 -- a device whose area is zeros, before its first boot
 abbrev pub new_device : Script → MemState
-new_device script = fresh (fresh_disk (replicate 266240 0)) fresh_work 168001 script
+new_device script = fresh (fresh_disk (replicate AREA 0)) fresh_work ROOM script
 
 -- a source that never fails, before its first call
 abbrev pub new_source : Tree → Shelf
