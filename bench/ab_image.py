@@ -36,7 +36,7 @@ def run(words, folder):
 
 def make(folder, size):
     """A device whose partitions take so many bytes, and an artifact with such an image."""
-    work = folder + "/work/0000"
+    work = os.path.join(folder, "work", "0000")
     os.makedirs(work + "/files")
     os.makedirs(work + "/header")
     digest = hashlib.sha256()
