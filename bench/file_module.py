@@ -4,8 +4,9 @@
 usage: bench/file_module.py [PROGRAM]
 For a target that is there and for one that isn't, for an installation and for a rollback, each system call of the whole run is
 the one at which the module is killed (kill -9, as the call is entered). The rollback that follows must end with 0, and leave the
-old bytes with the old mode, or no target. Then each system call of a rollback is the one at which it is killed behind an
-installation that was killed at each of its two renames.
+old bytes with the old mode and owner, or no target. Then each system call of a rollback is the one at which it is killed behind
+an installation that was killed at each of its two renames. Last a rollback is begun beside an installation that waits in its
+first rename, and must wait for its end.
 """
 import collections
 import os
@@ -13,8 +14,12 @@ import shutil
 import subprocess
 import sys
 import tempfile
+import time
 
-OLD, NEW, MODE = b"old bytes" * 9_000, b"new bytes" * 11_000, 0o750
+OLD, NEW, MODE = b"old bytes" * 9_000, b"new bytes" * 11_000, 0o4750
+
+# another owner than the one who runs this, where that one may give files away
+OWNER = 1_000 if os.geteuid() == 0 else os.geteuid()
 
 
 def make(folder, old):
@@ -27,6 +32,7 @@ def make(folder, old):
     if old:
         with open(f"{folder}/root/target", "wb") as target:
             target.write(OLD)
+        os.chown(f"{folder}/root/target", OWNER, -1)
         os.chmod(f"{folder}/root/target", MODE)
 
 
@@ -51,8 +57,9 @@ def stands(folder, old):
     target = f"{folder}/root/target"
     if not old:
         return not os.path.lexists(target)
+    found = os.stat(target)
     with open(target, "rb") as file:
-        return file.read() == OLD and os.stat(target).st_mode & 0o7777 == MODE
+        return file.read() == OLD and found.st_mode & 0o7777 == MODE and found.st_uid == OWNER
 
 
 def whole(folder, old):
@@ -67,6 +74,16 @@ def whole(folder, old):
 def kill(program, folder, word, name, at):
     """Runs the word, which is killed at that system call of the name. Whether it was."""
     return run(program, folder, word, "strace", "-o", "/dev/null", f"-einject={name}:signal=KILL:when={at}") == -9
+
+
+def beside(program, folder, rename):
+    """Begins a rollback while an installation waits in a rename. Whether both ended with 0, the rollback behind it."""
+    delay = ["strace", "-o", "/dev/null", f"-einject={rename}:delay_enter=500000:when=1"]
+    installing = subprocess.Popen([*delay, program, "ArtifactInstall", f"{folder}/work/0000"])
+    time.sleep(0.25)
+    begun = installing.poll() is None
+    rolled_back = run(program, folder, "ArtifactRollback")
+    return begun and rolled_back == 0 and installing.wait() == 0
 
 
 def main():
@@ -105,6 +122,10 @@ def main():
                 if not good:
                     wrong += 1
                     print(f"FAILED  target {old}, {word}, {name} {at}, then {then}")
+            make(folder, old)
+            if not (beside(program, folder, renames[0]) and stands(folder, old)):
+                wrong += 1
+                print(f"FAILED  target {old}, two at once")
     print(f"{cases} kills, {wrong} wrong")
     sys.exit(1 if wrong else 0)
 

@@ -5,9 +5,9 @@ ghost use Rattle.ab_image.specs.declared.layout.TheConstants.{LEAST_SIZE};
 
 use ab_image::{Blocks, LEAST_SIZE};
 use device_model::Down;
-use host_edge::{HostFault, answered, hold};
+use host_edge::{Failures, HostFault, Lockable, hold, named, told};
 use std::alloc::Global;
-use std::fs::{File, FileType, OpenFile, OpenOptions};
+use std::fs::{FileType, OpenFile, OpenOptions};
 use std::io::{self, ErrorKind, Seek, SeekFrom};
 use std::os::unix::fs::{FileExt, FileTypeExt};
 use std::rt::{Clock, Files};
@@ -15,76 +15,84 @@ use std::rt::{Clock, Files};
 /// A file or a block device as blocks. It tells nothing of what stands there, and counts each call that failed. It never answers
 /// `Off`.
 #[derive(Drop)]
-pub struct HostBlocks {
-    file: File,
+pub struct HostBlocks<F: OpenFile + FileExt + Drop> {
+    alloc: Global,
+    path: String,
+    file: F,
     size: u64,
-    failed: u64,
+    failures: Failures,
     ghost least: { LEAST_SIZE ≤ size },
     ghost most: { size < 2 ^ 60 },
 }
 
-fn no_disk() -> io::Error {
-    io::Error::from(ErrorKind::InvalidInput)
+fn no_disk(reason: &'static str) -> io::Error {
+    io::Error::new(ErrorKind::InvalidInput, reason)
 }
 
-/// Whether it is a regular file or a block device.
-fn is_disk(kind: FileType) -> bool {
-    kind.is_file() || kind.is_block_device()
+/// Sees that it is a regular file or a block device.
+fn check_kind(kind: FileType) -> io::Result<()> {
+    if kind.is_file() || kind.is_block_device() {
+        Ok(())
+    } else {
+        Err(no_disk("it is neither a file nor a block device"))
+    }
 }
 
 /// Opens what stands there, which is never made, for this program alone, and says how many bytes it has. It is looked at before,
 /// since to open another device may do something, and after, since another may stand there by then.
-fn open_disk<R: Files<File = File> + Clock>(rt: &R, path: &str) -> io::Result<(File, u64)> {
-    if !is_disk(rt.metadata(path)?.file_type()) {
-        return Err(no_disk());
-    }
+fn open_disk<R: Files + Clock>(rt: &R, path: &str) -> io::Result<(R::File, u64)>
+where
+    R::File: Lockable,
+    ensures least { IfOk result (λ r. LEAST_SIZE ≤ r.1) }
+    ensures most { IfOk result (λ r. r.1 < 2 ^ 60) }
+{
+    check_kind(rt.metadata(path)?.file_type())?;
     let mut file = OpenOptions::new().read(true).write(true).open(rt, path)?;
-    if !is_disk(file.metadata()?.file_type()) {
-        return Err(no_disk());
-    }
+    check_kind(file.metadata()?.file_type())?;
     hold(rt, &file)?;
     let size = file.seek(SeekFrom::End(0))?;
-    Ok((file, size))
+    if size >= LEAST_SIZE && size < 1 << 60 {
+        Ok((file, size))
+    } else {
+        Err(no_disk("it has fewer than 8192 bytes, or 2^60 and more"))
+    }
 }
 
-impl HostBlocks {
-    /// The file or the block device `blocks`, two folders above a work folder.
-    pub fn above<R: Files<File = File> + Clock>(
+impl<F: OpenFile + FileExt + Drop> HostBlocks<F> {
+    /// The file or the block device `blocks`, two folders above a work folder. Why it can't be had is noted.
+    pub fn above<R: Files<File = F> + Clock>(
         rt: &R,
         alloc: Global,
         folder: &str,
-    ) -> Result<HostBlocks, HostFault>
-        ensures { IfOk result (λ b. b.failed ≡ 0) }
+        noted: &mut Failures,
+    ) -> Result<HostBlocks<F>, HostFault>
+    where
+        F: Seek + Lockable,
+        ensures { IfOk result (λ b. b.failures.count ≡ 0) }
     {
         let path = format!(in alloc; "{folder}/../../blocks")?;
         match open_disk(rt, path.as_str()) {
-            Ok((file, size)) if size >= LEAST_SIZE && size < 1 << 60 => Ok(HostBlocks {
+            Ok((file, size)) => Ok(HostBlocks {
+                alloc,
+                path,
                 file,
                 size,
-                failed: 0,
+                failures: Failures::none(),
             }),
-            Ok(_) => Err(HostFault::NoStore),
-            Err(error) => Err(HostFault::of(&error, HostFault::NoStore)),
+            Err(reason) => Err(noted.refuse(alloc, path.as_str(), reason, HostFault::NoStore)),
         }
     }
 
-    fn read_bytes(&self, at: u64, into: &mut [u8]) -> io::Result<()> {
-        self.file.read_exact_at(into, at)
-    }
-
-    fn write_bytes(&self, at: u64, bytes: &[u8]) -> io::Result<()> {
-        self.file.write_all_at(bytes, at)
-    }
-
-    fn sync_bytes(&self) -> io::Result<()> {
-        self.file.sync_all()
+    /// Notes elsewhere what failed first.
+    pub fn hand_first(&mut self, noted: &mut Failures) {
+        noted.follow(&mut self.failures);
     }
 }
 
-impl Blocks for HostBlocks {
+impl<F: OpenFile + FileExt + Drop> Blocks for HostBlocks<F> {
     ghost use Rattle.ab_image_cli.specs.Untold.{untold};
 
-    ghost means = { λ b. untold b.size b.failed };
+    ghost means = { λ b. untold b.size b.failures.count };
 
     ghost whole = { λ b. record { least = b.least; most = b.most; disk = tt } };
 
@@ -93,17 +101,26 @@ impl Blocks for HostBlocks {
     }
 
     fn read(&mut self, at: u64, into: &mut [u8]) -> Result<(), Down> {
-        let done = self.read_bytes(at, into);
-        answered(&mut self.failed, done)
+        let done = self.file.read_exact_at(into, at);
+        told(
+            &mut self.failures,
+            named(self.alloc, self.path.as_str(), done),
+        )
     }
 
     fn write(&mut self, at: u64, bytes: &[u8]) -> Result<(), Down> {
-        let done = self.write_bytes(at, bytes);
-        answered(&mut self.failed, done)
+        let done = self.file.write_all_at(bytes, at);
+        told(
+            &mut self.failures,
+            named(self.alloc, self.path.as_str(), done),
+        )
     }
 
     fn sync(&mut self) -> Result<(), Down> {
-        let done = self.sync_bytes();
-        answered(&mut self.failed, done)
+        let done = self.file.sync_all();
+        told(
+            &mut self.failures,
+            named(self.alloc, self.path.as_str(), done),
+        )
     }
 }

@@ -5,64 +5,87 @@ mod disk;
 
 use crate::disk::HostBlocks;
 use ab_image::{AbAct, act};
-use host_edge::{HostFault, HostSink, cannot_start, fill_streams, source_of, words_of};
+use host_edge::{
+    Failure, Failures, HostFault, HostSink, Lockable, cannot_start, fill_streams, say_first,
+    source_of, words_of,
+};
 use std::alloc::Global;
-use std::fs::File;
+use std::io::{self, ErrorKind};
+use std::os::unix::fs::FileExt;
 use std::process::ExitCode;
 use std::rt::{Clock, Files};
 
-/// What a disk has to be.
-const NO_DISK: &str =
-    "the second word has to name a work folder, and blocks, two folders above it, to be a file or a block device of at least 8192 bytes that no other program holds";
-
 /// The disk above the folder that the second word names. Without such a word there is none.
-fn blocks_of<R: Files<File = File> + Clock>(
+fn blocks_of<R: Files + Clock>(
     rt: &R,
     alloc: Global,
     words: &[String],
-) -> Result<HostBlocks, HostFault> {
+    noted: &mut Failures,
+) -> Result<HostBlocks<R::File>, HostFault>
+where
+    R::File: FileExt + Lockable,
+{
     match words {
-        [_, folder, ..] => HostBlocks::above(rt, alloc, folder.as_str()),
-        _ => Err(HostFault::NoStore),
+        [_, folder, ..] => HostBlocks::above(rt, alloc, folder.as_str(), noted),
+        _ => {
+            let reason = io::Error::new(ErrorKind::InvalidInput, "it has to name a work folder");
+            noted.note(Failure::of("the second word", reason));
+            Err(HostFault::NoStore)
+        }
     }
 }
 
-/// Does what the words say.
-fn obey<R: Files<File = File> + Clock + Print + Drop>(
+/// Does what the words say. What failed first is noted.
+fn obey<R: Files + Clock + Print + Drop>(
     rt: R,
     alloc: Global,
     words: &[String],
-) -> Result<AbAct, HostFault> {
+    noted: &mut Failures,
+) -> Result<AbAct, HostFault>
+where
+    R::File: FileExt + Lockable,
+{
     let mut out = HostSink::new(&rt);
-    let mut source = source_of(&rt, alloc, words)?;
-    let mut blocks = blocks_of(&rt, alloc, words)?;
+    let mut source = source_of(&rt, alloc, words, noted)?;
+    let mut blocks = blocks_of(&rt, alloc, words, noted)?;
     let mut buffer = [0u8; 65_536];
-    Ok(act(
+    let ended = act(
         alloc,
         words,
         &mut source,
         &mut blocks,
         &mut out,
         &mut buffer,
-    ))
+    );
+    blocks.hand_first(noted);
+    source.hand_first(noted);
+    out.hand_first(noted);
+    Ok(ended)
+}
+
+/// Does what the words of the command line say, and ends with the number of its answer. What failed first is noted.
+fn run(rt: &HostRuntime, noted: &mut Failures) -> ExitCode {
+    let _streams = match fill_streams(rt) {
+        Ok(streams) => streams,
+        Err(reason) => {
+            noted.note(Failure::of("/dev/null", reason));
+            return cannot_start(rt, HostFault::NoStore);
+        }
+    };
+    let Ok(words) = words_of(rt) else {
+        return cannot_start(rt, HostFault::NoMemory);
+    };
+    match obey(rt, rt.alloc(), words.as_slice(), noted) {
+        Ok(ended) => ExitCode::from(ended.number()),
+        Err(fault) => cannot_start(rt, fault),
+    }
 }
 
 fn main(rt: HostRuntime) -> ExitCode {
-    let Ok(_streams) = fill_streams(&rt) else {
-        return cannot_start(&rt, HostFault::NoStore);
-    };
-    let Ok(words) = words_of(&rt) else {
-        return cannot_start(&rt, HostFault::NoMemory);
-    };
-    match obey(&rt, rt.alloc(), words.as_slice()) {
-        Ok(ended) => ExitCode::from(ended.number()),
-        Err(fault) => {
-            if fault == HostFault::NoStore {
-                let _ = eprintln!(rt; "{NO_DISK}");
-            }
-            cannot_start(&rt, fault)
-        }
-    }
+    let mut noted = Failures::none();
+    let ended = run(&rt, &mut noted);
+    say_first(&rt, &noted);
+    ended
 }
 
 #[cfg(test)]

@@ -1,6 +1,9 @@
 //! The module over a real file.
 
+mod syncs;
+
 use crate::obey;
+use host_edge::Failures;
 use std::fs;
 use std::rt::Files;
 use std::test::Fail;
@@ -23,7 +26,7 @@ fn status(rt: &HostRuntime, word: &str) -> Result<Option<u8>, Fail> {
         String::from_str(rt.alloc(), word)?,
         String::from_str(rt.alloc(), "device/work/0000")?,
     ];
-    match obey(rt, rt.alloc(), &words) {
+    match obey(rt, rt.alloc(), &words, &mut Failures::none()) {
         Ok(answer) => Ok(Some(answer.number())),
         Err(_) => Ok(None),
     }

@@ -10,14 +10,16 @@ use client_words::{Command, data_dir, read_words, tree_word};
 use device_mem::{AnswerList, AreaBytes, LossList, MemDevice, Script};
 use device_model::{Answer, ROOM};
 use host_edge::{
-    HostDevice, HostFault, HostSink, HostSource, cannot_start, fill_streams, words_of,
+    Failure, Failures, HostDevice, HostFault, HostSink, HostSource, Lockable, Watched,
+    asks_progress, cannot_start, fill_streams, say_first, words_of,
 };
 use io_model::Sink;
 use lab::top;
 use script_names::{ScriptList, Site};
 use std::alloc::Global;
-use std::fs::File;
-use std::process::{ExitCode, Processes};
+use std::env::Env;
+use std::os::unix::fs::FileExt;
+use std::process::{ExitCode, Processes, Stdio};
 use std::rt::{Clock, Files};
 use upd_text::{CallList, Name, NoMemory};
 
@@ -59,7 +61,10 @@ fn tell<R: Files + Drop, O: Sink>(
     alloc: Global,
     words: &[String],
     out: &mut O,
-) -> Result<Status, HostFault> {
+) -> Result<Status, HostFault>
+where
+    R::File: FileExt,
+{
     let Ok(device_type) = Name::read(b"none") else {
         return Err(HostFault::NoMemory);
     };
@@ -90,36 +95,53 @@ fn source_of<R: Files + Drop>(
     rt: R,
     alloc: Global,
     words: &[String],
-) -> Result<HostSource<R>, HostFault> {
+    noted: &mut Failures,
+) -> Result<HostSource<R>, HostFault>
+where
+    R::File: FileExt,
+{
     match word_at(words, tree_word(words)) {
-        Some(tree) => HostSource::attach(rt, alloc, tree),
+        Some(tree) => HostSource::attach_noting(rt, alloc, tree, noted),
         None => Ok(HostSource::none(rt, alloc)),
     }
 }
 
-/// Does what the words say with the device of their data folder.
-fn act<R: Files<File = File> + Processes + Clock + Drop, O: Sink>(
+/// Does what the words say with the device of their data folder. What failed first is noted.
+fn act<R: Files + Processes + Clock + Env + Eprint + Drop, O: Sink>(
     rt: R,
     alloc: Global,
     words: &[String],
     out: &mut O,
-) -> Result<Status, HostFault> {
-    let (mut device, site) = HostDevice::attach(&rt, alloc, folder_of(words))?;
-    let mut source = source_of(&rt, alloc, words)?;
-    Ok(top(alloc, words, &site, &mut source, out, &mut device))
+    noted: &mut Failures,
+) -> Result<Status, HostFault>
+where
+    R::File: FileExt + Lockable + Into<Stdio>,
+{
+    let folder = folder_of(words);
+    let (mut device, site) = HostDevice::attach_noting(&rt, alloc, folder, noted)?;
+    let tree = source_of(&rt, alloc, words, noted)?;
+    let mut source = Watched::new(&rt, tree, asks_progress(&rt));
+    let status = top(alloc, words, &site, &mut source, out, &mut device);
+    device.hand_first(noted);
+    source.source().hand_first(noted);
+    Ok(status)
 }
 
 /// Does what the words say, and tells it. Where they are no command, or one that is done on no device, no data folder is asked
 /// for.
-fn obey<R: Files<File = File> + Processes + Clock + Drop, O: Sink>(
+fn obey<R: Files + Processes + Clock + Env + Eprint + Drop, O: Sink>(
     rt: R,
     alloc: Global,
     words: &[String],
     out: &mut O,
-) -> Result<Status, HostFault> {
+    noted: &mut Failures,
+) -> Result<Status, HostFault>
+where
+    R::File: FileExt + Lockable + Into<Stdio>,
+{
     match read_words(words) {
         Err(_) | Ok(Command::Simulate { .. }) => tell(rt, alloc, words, out),
-        Ok(_) => act(rt, alloc, words, out),
+        Ok(_) => act(rt, alloc, words, out, noted),
     }
 }
 
@@ -130,22 +152,36 @@ fn list_forms<R: Eprint>(rt: &R, status: &Status) {
     }
 }
 
-fn main(rt: HostRuntime) -> ExitCode {
-    let Ok(_streams) = fill_streams(&rt) else {
-        return cannot_start(&rt, HostFault::NoStore);
+/// Does what the words say, and ends with the number of its answer. What failed first is noted.
+fn run(rt: &HostRuntime, noted: &mut Failures) -> ExitCode {
+    let _streams = match fill_streams(rt) {
+        Ok(streams) => streams,
+        Err(reason) => {
+            noted.note(Failure::of("/dev/null", reason));
+            return cannot_start(rt, HostFault::NoStore);
+        }
     };
     let alloc = rt.alloc();
-    let Ok(words) = words_of(&rt) else {
-        return cannot_start(&rt, HostFault::NoMemory);
+    let Ok(words) = words_of(rt) else {
+        return cannot_start(rt, HostFault::NoMemory);
     };
-    let mut out = HostSink::new(&rt);
-    match obey(&rt, alloc, words.as_slice(), &mut out) {
+    let mut out = HostSink::new(rt);
+    let ended = obey(rt, alloc, words.as_slice(), &mut out, noted);
+    out.hand_first(noted);
+    match ended {
         Ok(status) => {
-            list_forms(&rt, &status);
+            list_forms(rt, &status);
             ExitCode::from(status.number())
         }
-        Err(fault) => cannot_start(&rt, fault),
+        Err(fault) => cannot_start(rt, fault),
     }
+}
+
+fn main(rt: HostRuntime) -> ExitCode {
+    let mut noted = Failures::none();
+    let ended = run(&rt, &mut noted);
+    say_first(&rt, &noted);
+    ended
 }
 
 #[cfg(test)]

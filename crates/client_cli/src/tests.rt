@@ -1,12 +1,16 @@
-//! The client over real files and programs. Each test has a folder of its own, and leaves nothing behind.
+//! The client over real files and programs, where each test has a folder of its own and leaves nothing behind; and what no row
+//! of scenario_cli shows of the calls below.
 
+mod boots;
 mod deployments;
+mod rounds;
 mod stores;
+mod texts;
 mod trees;
 mod words;
 
 use crate::obey;
-use host_edge::HostFault;
+use host_edge::{Failures, HostFault};
 use io_model::MemSink;
 use std::alloc::{AllocError, Global};
 use std::fs;
@@ -75,10 +79,16 @@ fn not_started(alloc: Global, fault: HostFault) -> Result<String, Fail> {
 
 /// What the client answers to the words of a line: its exit status and its text.
 fn answer(rt: &HostRuntime, line: &str) -> Result<String, Fail> {
+    let mut noted = Failures::none();
+    answer_noting(rt, line, &mut noted)
+}
+
+/// The same, where what failed first is noted.
+fn answer_noting(rt: &HostRuntime, line: &str, noted: &mut Failures) -> Result<String, Fail> {
     let alloc = rt.alloc();
     let words = words_of(alloc, line)?;
     let mut out = MemSink::new(alloc, 1_000, CallList::new(alloc))?;
-    match obey(rt, alloc, words.as_slice(), &mut out) {
+    match obey(rt, alloc, words.as_slice(), &mut out, noted) {
         Ok(status) => told(alloc, status.number(), &out),
         Err(fault) => not_started(alloc, fault),
     }

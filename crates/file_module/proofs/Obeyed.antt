@@ -1,5 +1,5 @@
 -- What a word does, from what its steps do.
-use Rattle.std.proofs.Common.{◌≡◌, inl, inr, ⊎_elim, ◌⊎◌, ℕ, zero, suc, ◌<◌, ◌≤◌, get_or, take, true, List, [], ◌∷◌, length, refl, sym, ◌∙◌, ap, subst, arith}
+use Rattle.std.proofs.Common.{◌≡◌, inl, inr, ⊎_elim, ◌⊎◌, ℕ, zero, suc, ◌<◌, ◌≤◌, get_or, take, true, false, List, [], ◌∷◌, length, refl, sym, ◌∙◌, ap, subst, arith}
 use Rattle.std.specs.Prelude.{Option, Some, None, Ok, Err, option_map}
 use Rattle.io_model.specs.Source.{Content, bytes_at}
 use Rattle.io_model.specs.Source.Content.{Told, Untold}
@@ -9,10 +9,10 @@ use Rattle.file_module.specs.declared.answer.Stop.{Stop}
 use Rattle.file_module.specs.declared.answer.Stop.TheVariants as stop
 use Rattle.file_module.specs.declared.words.Word.{Word}
 use Rattle.file_module.specs.declared.words.Word.TheVariants.{Download, ArtifactInstall, ArtifactRollback}
-use Rattle.file_module.specs.Contents.{Contents, InContent, WhenTold}
+use Rattle.file_module.specs.Contents.{Contents, InContent, IsThere, WhenTold}
 use Rattle.file_module.specs.Calls.{Gives}
 use Rattle.file_module.specs.Copying.{rest}
-use Rattle.file_module.specs.Answers.{Counts, TouchesFresh, SetsSaved, SetsTarget, Replaces, IsOfPlace, IsOfWriting, stopped_by}
+use Rattle.file_module.specs.Answers.{Counts, TouchesFresh, SetsSaved, SetsTarget, Replaces, GivesBack, Untouched, IsOfPlace, IsOfWriting, stopped_by}
 use Rattle.file_module.specs.Payload.{When, IsPayload, Finds, payloads}
 use Rattle.file_module.specs.Saved.{Kept, IsNew, IsBad, HasHead, head_of, spelling, saved_after, meant_by, rolled_back}
 use Rattle.file_module.specs.FileActs.{Clears, Downloads, Installs, RollsBack, NeedsOne, BadPayloadIs, CountsPayloads, may_answer}
@@ -31,6 +31,9 @@ pub stops_clearing : (s : Stop) (old new : Contents) → SetsSaved (stopped_by s
 stops_clearing s old new first = record { counts = first.counts; target = first.target; saved = λ e. absurd (done_or_not s e); fresh = λ e. absurd (done_or_not s e) }
 
 -- ---- the payload files
+
+true_false : true ≡ false → ⊥
+true_false e = cc
 
 one_of : (l : List (List ℕ)) (x : List ℕ) → l ≡ x ∷ [] → length l ≡ 1
 one_of l x e = ap length e
@@ -57,8 +60,8 @@ bad_stopped files stop.Off m h n e = absurd h
 bad_stopped files stop.BadSaved m h n e = absurd h
 
 counts_stopped : (files : Content) (s : Stop) (m : Contents) → m.on ≡ true → Finds files (Err s) → Counts (stopped_by s) m m
-counts_stopped files (stop.BadPayload k) m on h = record { on = on; told = refl; losses = refl; faults = refl }
-counts_stopped files stop.SourceFault m on h = record { on = on; told = refl; losses = refl; faults = refl }
+counts_stopped files (stop.BadPayload k) m on h = record { on = on; told = refl; regular = refl; losses = refl; faults = refl }
+counts_stopped files stop.SourceFault m on h = record { on = on; told = refl; regular = refl; losses = refl; faults = refl }
 counts_stopped files stop.DiskFault m on h = absurd h
 counts_stopped files stop.Off m on h = absurd h
 counts_stopped files stop.BadSaved m on h = absurd h
@@ -109,6 +112,14 @@ may_clear stop.DiskFault h = refl
 may_clear stop.Off h = refl
 may_clear stop.BadSaved h = absurd h
 
+-- nothing was called
+unchanged : (files : Content) (s : Stop) (m : Contents) → Finds files (Err s) → Untouched (stopped_by s) m m
+unchanged files (stop.BadPayload k) m h = refl
+unchanged files stop.SourceFault m h = refl
+unchanged files stop.DiskFault m h = absurd h
+unchanged files stop.Off m h = absurd h
+unchanged files stop.BadSaved m h = absurd h
+
 -- ---- Download
 
 pub downloads_none : (files : Content) (s : Stop) (m : Contents) → m.on ≡ true → Finds files (Err s) → Downloads files (stopped_by s) m m
@@ -118,13 +129,26 @@ downloads_none files s m on h = record {
   kept = λ e. absurd (done_or_not s e);
   bad_payload = bad_stopped files s m h;
   needs_one = needs_stopped files s h;
+  irregular = λ told e. ((λ d. done_or_not s d), unchanged files s m h);
 }
 
-pub downloads_found : (files : Content) (i : ℕ) (old new : Contents) → Finds files (Ok i) → Clears act.Done old new → Downloads files act.Done old new
-downloads_found files i old new h clears = record { clears = clears; answers = refl; kept = λ e. inl (clears.saved e, clears.target); bad_payload = λ n e. absurd (cc); needs_one = needs_found files i act.Done h.1 }
+-- it stopped while it looked at the target
+pub downloads_unseen : (files : Content) (i : ℕ) (s : Stop) (old new : Contents) → Finds files (Ok i) → IsOfPlace s → TouchesFresh (stopped_by s) old new → Untouched (stopped_by s) old new → Downloads files (stopped_by s) old new
+downloads_unseen files i s old new h cause touches untouched = record {
+  clears = record { counts = touches.counts; target = touches.target; saved = λ e. absurd (done_or_not s e); fresh = λ e. absurd (done_or_not s e) };
+  answers = may_clear s cause;
+  kept = λ e. absurd (done_or_not s e);
+  bad_payload = λ n e. absurd (no_number s (of_writing s cause) n e);
+  needs_one = needs_found files i (stopped_by s) h.1;
+  irregular = λ told e. ((λ d. done_or_not s d), untouched);
+}
 
-pub downloads_cut : (files : Content) (i : ℕ) (s : Stop) (old new : Contents) → Finds files (Ok i) → IsOfPlace s → Clears (stopped_by s) old new → Downloads files (stopped_by s) old new
-downloads_cut files i s old new h cause clears = record {
+pub downloads_found : (files : Content) (i : ℕ) (old new : Contents) → Finds files (Ok i) → WhenTold old (old.regular ≡ true) → Clears act.Done old new → Downloads files act.Done old new
+downloads_found files i old new h regular clears = record { irregular = λ told e. absurd (true_false (sym (regular told) ∙ e)); clears = clears; answers = refl; kept = λ e. inl (clears.saved e, clears.target); bad_payload = λ n e. absurd (cc); needs_one = needs_found files i act.Done h.1 }
+
+pub downloads_cut : (files : Content) (i : ℕ) (s : Stop) (old new : Contents) → Finds files (Ok i) → WhenTold old (old.regular ≡ true) → IsOfPlace s → Clears (stopped_by s) old new → Downloads files (stopped_by s) old new
+downloads_cut files i s old new h regular cause clears = record {
+  irregular = λ told e. absurd (true_false (sym (regular told) ∙ e));
   clears = clears;
   answers = may_clear s cause;
   kept = λ e. absurd (done_or_not s e);
@@ -144,6 +168,26 @@ installs_none files s m on h = record {
   target = λ told e. absurd (done_or_not s e);
   saves = λ told e. absurd (done_or_not s e);
   saved = λ told bytes there. refl;
+  irregular = λ told e. ((λ d. done_or_not s d), unchanged files s m h);
+}
+
+-- the fresh content alone was changed
+touched_keeps : (is_new : List ℕ → Type 0) (t : Option (List ℕ)) (a : FileAct) (old new : Contents) → TouchesFresh a old new → Kept is_new t old → Kept is_new t new
+touched_keeps is_new t a old new h (inl k) = inl (h.saved ∙ k.0, h.target ∙ k.1)
+touched_keeps is_new t a old new h (inr k) = inr (h.saved ∙ k.0, ⊎_elim (λ (was : old.target ≡ t). inl (h.target ∙ was)) (λ (was : IsNew is_new old.target). inr (subst (IsNew is_new) (sym h.target) was)) k.1)
+
+-- it stopped while it looked at the target
+pub installs_unseen : (files : Content) (i : ℕ) (s : Stop) (old new : Contents) → Finds files (Ok i) → IsOfPlace s → TouchesFresh (stopped_by s) old new → Untouched (stopped_by s) old new → Installs files (stopped_by s) old new
+installs_unseen files i s old new h cause touches untouched = record {
+  counts = touches.counts;
+  answers = may_write s (of_writing s cause);
+  bad_payload = λ n e. absurd (no_number s (of_writing s cause) n e);
+  needs_one = needs_found files i (stopped_by s) h.1;
+  keeps = λ told t kept. touched_keeps (IsPayload files) t (stopped_by s) old new touches kept;
+  target = λ told e. absurd (done_or_not s e);
+  saves = λ told e. absurd (done_or_not s e);
+  saved = λ told bytes there. touches.saved;
+  irregular = λ told e. ((λ d. done_or_not s d), untouched);
 }
 
 saved_stays : (a : FileAct) (old new : Contents) → SetsSaved a (saved_after old.saved old.target) old new → (bytes : List ℕ) → old.saved ≡ Some bytes → new.saved ≡ old.saved
@@ -153,8 +197,9 @@ saved_stays a old new s bytes there = ⊎_elim
     s.saved
 
 -- it stopped while it saved
-pub installs_cut : (files : Content) (i : ℕ) (s : Stop) (old new : Contents) → Finds files (Ok i) → IsOfPlace s → Counts (stopped_by s) old new → WhenTold old (SetsSaved (stopped_by s) (saved_after old.saved old.target) old new) → Installs files (stopped_by s) old new
-installs_cut files i s old new h cause counts sets = record {
+pub installs_cut : (files : Content) (i : ℕ) (s : Stop) (old new : Contents) → Finds files (Ok i) → WhenTold old (old.regular ≡ true) → IsOfPlace s → Counts (stopped_by s) old new → WhenTold old (SetsSaved (stopped_by s) (saved_after old.saved old.target) old new) → Installs files (stopped_by s) old new
+installs_cut files i s old new h regular cause counts sets = record {
+  irregular = λ told e. absurd (true_false (sym (regular told) ∙ e));
   counts = counts;
   answers = may_write s (of_writing s cause);
   bad_payload = λ n e. absurd (no_number s (of_writing s cause) n e);
@@ -166,8 +211,9 @@ installs_cut files i s old new h cause counts sets = record {
 }
 
 -- it saved, and then replaced the target or stopped there
-installs_replacing : (files : Content) (i : ℕ) (a : FileAct) (old mid new : Contents) → Finds files (Ok i) → may_answer ArtifactInstall a ≡ true → NoNumber a → Counts act.Done old mid → WhenTold old (SetsSaved act.Done (saved_after old.saved old.target) old mid) → Counts a mid new → WhenTold mid (Replaces (IsPayload files) a mid new) → Installs files a old new
-installs_replacing files i a old mid new h may none first sets then r = record {
+installs_replacing : (files : Content) (i : ℕ) (a : FileAct) (old mid new : Contents) → Finds files (Ok i) → WhenTold old (old.regular ≡ true) → may_answer ArtifactInstall a ≡ true → NoNumber a → Counts act.Done old mid → WhenTold old (SetsSaved act.Done (saved_after old.saved old.target) old mid) → Counts a mid new → WhenTold mid (Replaces (IsPayload files) a mid new) → Installs files a old new
+installs_replacing files i a old mid new h regular may none first sets then r = record {
+  irregular = λ told e. absurd (true_false (sym (regular told) ∙ e));
   counts = counts_then a old mid new first then;
   answers = may;
   bad_payload = λ n e. absurd (none n e);
@@ -178,11 +224,11 @@ installs_replacing files i a old mid new h may none first sets then r = record {
   saved = λ told bytes there. (r (first.told ∙ told)).saved ∙ saved_stays act.Done old mid (sets told) bytes there;
 }
 
-pub installs_done : (files : Content) (i : ℕ) (old mid new : Contents) → Finds files (Ok i) → Counts act.Done old mid → WhenTold old (SetsSaved act.Done (saved_after old.saved old.target) old mid) → Counts act.Done mid new → WhenTold mid (Replaces (IsPayload files) act.Done mid new) → Installs files act.Done old new
-installs_done files i old mid new h first sets then r = installs_replacing files i act.Done old mid new h refl (λ n e. cc) first sets then r
+pub installs_done : (files : Content) (i : ℕ) (old mid new : Contents) → Finds files (Ok i) → WhenTold old (old.regular ≡ true) → Counts act.Done old mid → WhenTold old (SetsSaved act.Done (saved_after old.saved old.target) old mid) → Counts act.Done mid new → WhenTold mid (Replaces (IsPayload files) act.Done mid new) → Installs files act.Done old new
+installs_done files i old mid new h regular first sets then r = installs_replacing files i act.Done old mid new h regular refl (λ n e. cc) first sets then r
 
-pub installs_stopped : (files : Content) (i : ℕ) (s : Stop) (old mid new : Contents) → Finds files (Ok i) → IsOfWriting s → Counts act.Done old mid → WhenTold old (SetsSaved act.Done (saved_after old.saved old.target) old mid) → Counts (stopped_by s) mid new → WhenTold mid (Replaces (IsPayload files) (stopped_by s) mid new) → Installs files (stopped_by s) old new
-installs_stopped files i s old mid new h cause first sets then r = installs_replacing files i (stopped_by s) old mid new h (may_write s cause) (no_number s cause) first sets then r
+pub installs_stopped : (files : Content) (i : ℕ) (s : Stop) (old mid new : Contents) → Finds files (Ok i) → WhenTold old (old.regular ≡ true) → IsOfWriting s → Counts act.Done old mid → WhenTold old (SetsSaved act.Done (saved_after old.saved old.target) old mid) → Counts (stopped_by s) mid new → WhenTold mid (Replaces (IsPayload files) (stopped_by s) mid new) → Installs files (stopped_by s) old new
+installs_stopped files i s old mid new h regular cause first sets then r = installs_replacing files i (stopped_by s) old mid new h regular (may_write s cause) (no_number s cause) first sets then r
 
 -- ---- ArtifactRollback
 
@@ -236,7 +282,7 @@ rolls_keep is_new t old new target saved (inr h) = inr (
 -- nothing is saved
 pub rolls_none : (m : Contents) → m.on ≡ true → WhenTold m (m.saved ≡ None) → RollsBack act.Done m m
 rolls_none m on none = record {
-  counts = record { on = on; told = refl; losses = refl; faults = refl };
+  counts = record { on = on; told = refl; regular = refl; losses = refl; faults = refl };
   answers = refl;
   target = λ told. inl refl;
   done = λ told e. sym (ap (λ (o : Option (List ℕ)). rolled_back o m.target) (none told));
@@ -246,12 +292,14 @@ rolls_none m on none = record {
   finds_bad = λ told bad. absurd (subst IsBad (none told) bad);
   keeps = λ told files t kept. kept;
   restores = λ told e files t kept. sym (ap (λ (o : Option (List ℕ)). rolled_back o m.target) (none told)) ∙ rolls_back_to (IsPayload files) t m kept;
+  back = λ told e. refl;
+  irregular = λ told e. ((λ there. absurd (subst IsThere (none told) there)), refl);
 }
 
 -- what is saved is bad
 pub rolls_bad : (m : Contents) → m.on ≡ true → WhenTold m (IsBad m.saved) → RollsBack act.BadSaved m m
 rolls_bad m on bad = record {
-  counts = record { on = on; told = refl; losses = refl; faults = refl };
+  counts = record { on = on; told = refl; regular = refl; losses = refl; faults = refl };
   answers = refl;
   target = λ told. inl refl;
   done = λ told e. cc;
@@ -261,11 +309,15 @@ rolls_bad m on bad = record {
   finds_bad = λ told b. inl refl;
   keeps = λ told files t kept. kept;
   restores = λ told e. cc;
+  back = λ told e. refl;
+  irregular = λ told e. ((λ there d. cc), refl);
 }
 
 -- it stopped before the target was changed
-pub rolls_cut : (s : Stop) (old new : Contents) → IsOfPlace s → TouchesFresh (stopped_by s) old new → RollsBack (stopped_by s) old new
-rolls_cut s old new cause h = record {
+pub rolls_cut : (s : Stop) (old new : Contents) → IsOfPlace s → TouchesFresh (stopped_by s) old new → Untouched (stopped_by s) old new → RollsBack (stopped_by s) old new
+rolls_cut s old new cause h untouched = record {
+  back = λ told e. untouched;
+  irregular = λ told e. ((λ there d. done_or_not s d), untouched);
   counts = h.counts;
   answers = may_roll s cause;
   target = λ told. inl h.target;
@@ -279,34 +331,38 @@ rolls_cut s old new cause h = record {
 }
 
 -- it set the target to what was saved
-pub rolls_done : (bytes : Option (List ℕ)) (old new : Contents) → WhenTold old (bytes ≡ rolled_back old.saved old.target) → WhenTold old (IsBad old.saved → ⊥) → Counts act.Done old new → new.saved ≡ old.saved → WhenTold old (SetsTarget act.Done bytes old new) → RollsBack act.Done old new
+pub rolls_done : (bytes : Option (List ℕ)) (old new : Contents) → WhenTold old (bytes ≡ rolled_back old.saved old.target) → WhenTold old (IsBad old.saved → ⊥) → Counts act.Done old new → new.saved ≡ old.saved → WhenTold old (GivesBack act.Done bytes old new) → RollsBack act.Done old new
 rolls_done bytes old new is good counts saved h = record {
+  back = λ told e. (h told).same (e ∙ sym (is told));
+  irregular = λ told e. ((λ there. ((h told).irregular e).0), ((h told).irregular e).1);
   counts = counts;
   answers = refl;
-  target = λ told. inr ((h told).done refl ∙ is told);
-  done = λ told e. (h told).done refl ∙ is told;
+  target = λ told. inr ((h told).sets.done refl ∙ is told);
+  done = λ told e. (h told).sets.done refl ∙ is told;
   saved = saved;
   bad_saved = λ told e. cc;
   bad_stays = λ e. cc;
   finds_bad = λ told bad. absurd (good told bad);
-  keeps = λ told files t kept. rolls_keep (IsPayload files) t old new (inr ((h told).done refl ∙ is told)) saved kept;
-  restores = λ told e files t kept. (h told).done refl ∙ is told ∙ rolls_back_to (IsPayload files) t old kept;
+  keeps = λ told files t kept. rolls_keep (IsPayload files) t old new (inr ((h told).sets.done refl ∙ is told)) saved kept;
+  restores = λ told e files t kept. (h told).sets.done refl ∙ is told ∙ rolls_back_to (IsPayload files) t old kept;
 }
 
 set_or_not : (bytes : Option (List ℕ)) (a : FileAct) (old new : Contents) → bytes ≡ rolled_back old.saved old.target → SetsTarget a bytes old new → (new.target ≡ old.target) ⊎ (new.target ≡ rolled_back old.saved old.target)
 set_or_not bytes a old new is h = ⊎_elim (λ (same : new.target ≡ old.target). inl same) (λ (set : new.target ≡ bytes). inr (set ∙ is)) h.target
 
-pub rolls_stopped : (bytes : Option (List ℕ)) (s : Stop) (old new : Contents) → WhenTold old (bytes ≡ rolled_back old.saved old.target) → IsOfPlace s → Counts (stopped_by s) old new → new.saved ≡ old.saved → WhenTold old (SetsTarget (stopped_by s) bytes old new) → RollsBack (stopped_by s) old new
+pub rolls_stopped : (bytes : Option (List ℕ)) (s : Stop) (old new : Contents) → WhenTold old (bytes ≡ rolled_back old.saved old.target) → IsOfPlace s → Counts (stopped_by s) old new → new.saved ≡ old.saved → WhenTold old (GivesBack (stopped_by s) bytes old new) → RollsBack (stopped_by s) old new
 rolls_stopped bytes s old new is cause counts saved h = record {
+  back = λ told e. (h told).same (e ∙ sym (is told));
+  irregular = λ told e. ((λ there. ((h told).irregular e).0), ((h told).irregular e).1);
   counts = counts;
   answers = may_roll s cause;
-  target = λ told. set_or_not bytes (stopped_by s) old new (is told) (h told);
-  done = λ told e. (h told).done e ∙ is told;
+  target = λ told. set_or_not bytes (stopped_by s) old new (is told) (h told).sets;
+  done = λ told e. (h told).sets.done e ∙ is told;
   saved = saved;
   bad_saved = λ told e. absurd (not_bad s cause e);
   bad_stays = λ e. absurd (not_bad s cause e);
   finds_bad = λ told bad. cut_by s cause (stopped_by s) refl;
-  keeps = λ told files t kept. rolls_keep (IsPayload files) t old new (set_or_not bytes (stopped_by s) old new (is told) (h told)) saved kept;
+  keeps = λ told files t kept. rolls_keep (IsPayload files) t old new (set_or_not bytes (stopped_by s) old new (is told) (h told).sets) saved kept;
   restores = λ told e. absurd (done_or_not s e);
 }
 

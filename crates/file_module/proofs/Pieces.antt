@@ -21,7 +21,7 @@ added_twice bytes more (Some l) = ap Some (append_assoc l bytes more)
 pub adds_then : (bytes more : List ℕ) (old mid new : Contents) → AddsFresh bytes old mid → AddsFresh more mid new → AddsFresh (bytes ++ more) old new
 adds_then bytes more old mid new a b = b ∙ ap (λ (o : Option (List ℕ)). option_map (λ (l : List ℕ). l ++ more) o) a ∙ added_twice bytes more old.fresh
 
-drop_more : (n m : ℕ) (l : List ℕ) → drop (n + m) l ≡ drop m (drop n l)
+pub drop_more : (n m : ℕ) (l : List ℕ) → drop (n + m) l ≡ drop m (drop n l)
 drop_more n m l = sym (drop-drop m n l)
 
 within : (bytes : List ℕ) (from k count : ℕ) → take k (drop from bytes) ++ take count (drop (from + k) bytes) ≡ take (k + count) (drop from bytes)

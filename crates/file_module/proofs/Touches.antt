@@ -19,6 +19,7 @@ pub counts_then : (act : FileAct) (old mid new : Contents) → Counts Done old m
 counts_then act old mid new a b = record {
   on = b.on;
   told = b.told ∙ a.told;
+  regular = b.regular ∙ a.regular;
   losses = b.losses ∙ ap (λ (n : ℕ). losses_after act n) a.losses;
   faults = b.faults ∙ ap (λ (n : ℕ). faults_after act n) a.faults;
 }

@@ -1,11 +1,12 @@
 -- How the module ends.
-use Rattle.std.specs.Prelude.{◌≡◌, ◌⊎◌, ℕ, Bool, true, false, List, Option, Result, Ok, Err, ⊤}
+use Rattle.std.specs.Prelude.{◌≡◌, ◌≢◌, ◌⊎◌, ℕ, Bool, true, false, List, Option, Result, Ok, Err, ⊤}
 use Rattle.upd_text.specs.Counts.{counted}
 use Rattle.file_module.specs.declared.answer.Stop.{Stop}
 use Rattle.file_module.specs.declared.answer.Stop.TheVariants as stop
 use Rattle.file_module.specs.declared.answer.FileAct.{FileAct}
 use Rattle.file_module.specs.declared.answer.FileAct.TheVariants.{Done, Usage, BadPayload, DiskFault, SourceFault, SinkFault, Off, BadSaved}
 use Rattle.file_module.specs.Contents.{Contents}
+use Rattle.file_module.specs.Calls.{Loses, failed}
 use Rattle.file_module.specs.Saved.{IsNew}
 
 abbrev pub stopped_by : Stop → FileAct
@@ -77,8 +78,20 @@ source_after BadSaved n = n
 pub record Counts (act : FileAct) (old new : Contents) : Type 0 where
   pub on : new.on ≡ on_after act
   pub told : new.told ≡ old.told
+  pub regular : new.regular ≡ old.regular
   pub losses : new.losses ≡ losses_after act old.losses
   pub faults : new.faults ≡ faults_after act old.faults
+
+-- No call changed anything: all is as it was, but for the counts, and for what a loss makes of a fresh content that isn't settled.
+abbrev pub Untouched : FileAct → Contents → Contents → Type 0
+Untouched Done old new = new ≡ old
+Untouched Usage old new = new ≡ old
+Untouched (BadPayload n) old new = new ≡ old
+Untouched DiskFault old new = new ≡ failed old
+Untouched SourceFault old new = new ≡ old
+Untouched SinkFault old new = new ≡ old
+Untouched Off old new = Loses old new
+Untouched BadSaved old new = new ≡ old
 
 -- at most the fresh content was changed
 pub record TouchesFresh (act : FileAct) (old new : Contents) : Type 0 where
@@ -93,7 +106,13 @@ pub record SetsTarget (act : FileAct) (bytes : Option (List ℕ)) (old new : Con
   pub done : act ≡ Done → new.target ≡ bytes
   pub saved : new.saved ≡ old.saved
 
--- the same of what is saved
+-- The target is given this content where it is a file or absent: nothing is written where it has it already.
+pub record GivesBack (act : FileAct) (bytes : Option (List ℕ)) (old new : Contents) : Type 0 where
+  pub sets : SetsTarget act bytes old new
+  pub same : old.target ≡ bytes → Untouched act old new
+  pub irregular : old.regular ≡ false → (act ≢ Done) × Untouched act old new
+
+-- what is saved has this content instead, or stays where the call didn't go through
 pub record SetsSaved (act : FileAct) (bytes : Option (List ℕ)) (old new : Contents) : Type 0 where
   pub counts : Counts act old new
   pub saved : (new.saved ≡ old.saved) ⊎ (new.saved ≡ bytes)

@@ -7,6 +7,7 @@ use Rattle.file_module.specs.declared.place.Slot.TheVariants.{Target, Saved, Fre
 pub record Contents : Type 0 where
   pub on : Bool
   pub told : Bool  -- whether it tells its contents; one that doesn't tell them means all as absent
+  pub regular : Bool  -- whether the target is a file or absent: nothing else stands there, that a module must not replace
   pub target : Option (List ℕ)
   pub saved : Option (List ℕ)
   pub fresh : Option (List ℕ)

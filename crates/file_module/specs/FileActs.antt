@@ -6,8 +6,8 @@ use Rattle.file_module.specs.declared.answer.FileAct.{FileAct}
 use Rattle.file_module.specs.declared.answer.FileAct.TheVariants.{Done, Usage, BadPayload, DiskFault, SourceFault, SinkFault, Off, BadSaved}
 use Rattle.file_module.specs.declared.words.Word.{Word}
 use Rattle.file_module.specs.declared.words.Word.TheVariants.{SupportsRollback, NeedsArtifactReboot, Download, ArtifactInstall, ArtifactRollback, Cleanup, Other}
-use Rattle.file_module.specs.Contents.{Contents, WhenTold}
-use Rattle.file_module.specs.Answers.{Counts}
+use Rattle.file_module.specs.Contents.{Contents, IsThere, WhenTold}
+use Rattle.file_module.specs.Answers.{Counts, Untouched}
 use Rattle.file_module.specs.Payload.{When, IsPayload, HasPayloads, payloads}
 use Rattle.file_module.specs.Saved.{IsBad, IsNew, Kept, spelling, rolled_back}
 use Rattle.file_module.specs.Words.{reply_to}
@@ -88,6 +88,7 @@ pub record Downloads (files : Content) (act : FileAct) (old new : Contents) : Ty
   pub kept : act ≡ Done → Kept (IsPayload files) old.target new
   pub bad_payload : BadPayloadIs files act old new
   pub needs_one : NeedsOne files act
+  pub irregular : WhenTold old (old.regular ≡ false → (act ≢ Done) × Untouched act old new)
 
 pub record Installs (files : Content) (act : FileAct) (old new : Contents) : Type 0 where
   pub counts : Counts act old new
@@ -98,6 +99,7 @@ pub record Installs (files : Content) (act : FileAct) (old new : Contents) : Typ
   pub target : WhenTold old (act ≡ Done → IsNew (IsPayload files) new.target)
   pub saves : WhenTold old (act ≡ Done → old.saved ≡ None → new.saved ≡ Some (spelling old.target))
   pub saved : WhenTold old ((bytes : List ℕ) → old.saved ≡ Some bytes → new.saved ≡ old.saved)
+  pub irregular : WhenTold old (old.regular ≡ false → (act ≢ Done) × Untouched act old new)
 
 pub record RollsBack (act : FileAct) (old new : Contents) : Type 0 where
   pub counts : Counts act old new
@@ -109,6 +111,8 @@ pub record RollsBack (act : FileAct) (old new : Contents) : Type 0 where
   pub restores : WhenTold old (act ≡ Done → (files : Content) (t : Option (List ℕ)) → Kept (IsPayload files) t old → new.target ≡ t)
   pub bad_saved : WhenTold old (act ≡ BadSaved → IsBad old.saved)
   pub bad_stays : act ≡ BadSaved → new ≡ old
+  pub back : WhenTold old (old.target ≡ rolled_back old.saved old.target → Untouched act old new)
+  pub irregular : WhenTold old (old.regular ≡ false → (IsThere old.saved → act ≢ Done) × Untouched act old new)
   pub finds_bad : WhenTold old (IsBad old.saved → (act ≡ BadSaved) ⊎ ((act ≡ DiskFault) ⊎ (act ≡ Off)))
 
 -- ---- the contract of the module

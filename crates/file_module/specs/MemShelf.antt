@@ -26,7 +26,7 @@ pub record MemShelf : Type 0 where
 -- a new place: it is on, and all is absent
 abbrev pub empty_shelf : ℕ → List LossAt → List ℕ → MemShelf
 empty_shelf room losses failing = record {
-  place = record { on = true; told = true; target = None; saved = None; fresh = None; settled = true; faults = 0; losses = 0 };
+  place = record { on = true; told = true; regular = true; target = None; saved = None; fresh = None; settled = true; faults = 0; losses = 0 };
   room = room;
   losses = losses;
   failing = failing;

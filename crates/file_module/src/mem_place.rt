@@ -37,7 +37,7 @@ impl Model for MemPlace {
     ghost Value = { MemShelf };
 
     ghost view = { λ m. record {
-      place = record { on = m.on; told = true; target = m.target.content; saved = m.saved.content; fresh = m.fresh.content; settled = m.settled; faults = m.faults; losses = m.lost };
+      place = record { on = m.on; told = true; regular = true; target = m.target.content; saved = m.saved.content; fresh = m.fresh.content; settled = m.settled; faults = m.faults; losses = m.lost };
       room = m.room;
       losses = m.losses;
       failing = m.failing;
@@ -229,6 +229,7 @@ impl MemPlace {
     fn act(&mut self, effect: Effect) -> Result<(), Down>
         requires { CanHappen effect }
         ensures told { self.old.place.told ≡ true }
+        ensures regular { self.old.place.regular ≡ true }
         ensures ends { EndsWhole (with_effect effect) self.old.place result self.new.place }
         ensures exact { Acts (with_place (with_effect effect)) self.old result self.new }
     {
@@ -283,6 +284,7 @@ impl Place for MemPlace {
     fn length(&mut self, slot: Slot) -> Result<Option<u64>, Down>
         ensures ends { EndsWhole (λ m. m) self.old.place result self.new.place }
         ensures value { IfOk result (λ n. WhenTold self.old.place (n ≡ option_map length (content slot self.old.place))) }
+        ensures regular { IfOk result (λ n. WhenTold self.old.place (slot ≡ Slot.Target → self.old.place.regular ≡ true)) }
         ensures exact { Acts (λ m. m) self.old result self.new }
     {
         match self.act(Effect::Nothing) {

@@ -1,7 +1,7 @@
 //! What the module does at each word.
 
 ghost use Rattle.std.specs.Prelude.{◌≡◌, ◌<◌, true, Some, length, option_map, IfErr, IfOk, OnOk};
-ghost use Rattle.file_module.specs.Answers.{act_of, source_after, IsOfPlace, TouchesFresh};
+ghost use Rattle.file_module.specs.Answers.{act_of, source_after, IsOfPlace, TouchesFresh, Untouched};
 ghost use Rattle.file_module.specs.Contents.{WhenTold};
 ghost use Rattle.file_module.specs.Saved.{head_of, HasHead};
 ghost use Rattle.file_module.specs.FileActs.{Clears, Downloads, Installs, RollsBack};
@@ -9,8 +9,8 @@ ghost use Rattle.file_module.specs.FileActs.{Clears, Downloads, Installs, RollsB
 use crate::answer::Stop;
 use crate::payload::find_payload;
 use crate::place::{Place, Slot};
-use crate::steps::{length, read, remove_fresh, remove_saved, remove_target};
-use crate::write::{bring_back, save_once, take_payload};
+use crate::steps::{length, read, remove_fresh, remove_saved};
+use crate::write::{give_absence, give_back, save_once, take_payload};
 use io_model::Source;
 
 /// Removes what is saved and what is being written.
@@ -30,8 +30,23 @@ pub(crate) fn clear<P: Place>(place: &mut P) -> Result<(), Stop>
     }
 }
 
-/// Sees that there is one payload file, and forgets what an earlier deployment saved.
-#[tactic(auto, using(crate::proofs::Touches::source_kept, crate::proofs::Obeyed::downloads_none, crate::proofs::Obeyed::downloads_found, crate::proofs::Obeyed::downloads_cut))]
+/// Sees that the target is a file or absent.
+fn look<P: Place>(place: &mut P) -> Result<(), Stop>
+    requires { (P.means place.old).on ≡ true }
+    ensures touches { TouchesFresh (act_of result) (P.means place.old) (P.means place.new) }
+    ensures cause { IfErr result IsOfPlace }
+    ensures same { OnOk result (P.means place.new ≡ P.means place.old) }
+    ensures untouched { Untouched (act_of result) (P.means place.old) (P.means place.new) }
+    ensures regular { OnOk result (WhenTold (P.means place.old) ((P.means place.old).regular ≡ true)) }
+{
+    match length(place, Slot::Target) {
+        Ok(_) => Ok(()),
+        Err(stop) => Err(stop),
+    }
+}
+
+/// Sees that there is one payload file and that the target is a file or absent, and forgets what an earlier deployment saved.
+#[tactic(auto, using(crate::proofs::Touches::source_kept, crate::proofs::Obeyed::downloads_none, crate::proofs::Obeyed::downloads_found, crate::proofs::Obeyed::downloads_unseen, crate::proofs::Obeyed::downloads_cut))]
 pub(crate) fn download<S: Source, P: Place>(source: &mut S, place: &mut P) -> Result<(), Stop>
     requires { (P.means place.old).on ≡ true }
     ensures plan { S.plan source.new ≡ S.plan source.old }
@@ -43,14 +58,18 @@ pub(crate) fn download<S: Source, P: Place>(source: &mut S, place: &mut P) -> Re
         Ok(_) => {}
         Err(stop) => return Err(stop),
     }
+    match look(place) {
+        Ok(()) => {}
+        Err(stop) => return Err(stop),
+    }
     match clear(place) {
         Ok(()) => Ok(()),
         Err(stop) => Err(stop),
     }
 }
 
-/// Saves the target where nothing is saved, and makes it the payload.
-#[tactic(auto, using(crate::proofs::Touches::source_kept, crate::proofs::Obeyed::installs_none, crate::proofs::Obeyed::installs_cut, crate::proofs::Obeyed::installs_done, crate::proofs::Obeyed::installs_stopped))]
+/// Saves the target where nothing is saved, and makes it the payload. What is neither a file nor absent is left as it is.
+#[tactic(auto, using(crate::proofs::Touches::source_kept, crate::proofs::Obeyed::installs_none, crate::proofs::Obeyed::installs_unseen, crate::proofs::Obeyed::installs_cut, crate::proofs::Obeyed::installs_done, crate::proofs::Obeyed::installs_stopped))]
 pub(crate) fn install<S: Source, P: Place>(
     source: &mut S,
     place: &mut P,
@@ -67,6 +86,10 @@ pub(crate) fn install<S: Source, P: Place>(
         Ok(i) => i,
         Err(stop) => return Err(stop),
     };
+    match look(place) {
+        Ok(()) => {}
+        Err(stop) => return Err(stop),
+    }
     match save_once(place, buffer) {
         Ok(()) => {}
         Err(stop) => return Err(stop),
@@ -84,6 +107,7 @@ fn saved_head<P: Place>(place: &mut P) -> Result<u8, Stop>
     requires some { WhenTold (P.means place.old) (HasHead (P.means place.old).saved) }
     ensures touches { TouchesFresh (act_of result) (P.means place.old) (P.means place.new) }
     ensures same { OnOk result (P.means place.new ≡ P.means place.old) }
+    ensures untouched { Untouched (act_of result) (P.means place.old) (P.means place.new) }
     ensures head { IfOk result (λ head. WhenTold (P.means place.old) (Some head ≡ head_of (P.means place.old).saved)) }
     ensures cause { IfErr result IsOfPlace }
 {
@@ -104,11 +128,11 @@ fn restore<P: Place>(place: &mut P, size: u64, buffer: &mut [u8]) -> Result<(), 
     ensures rolls_back { RollsBack (act_of result) (P.means place.old) (P.means place.new) }
 {
     match saved_head(place) {
-        Ok(0) => match remove_target(place) {
+        Ok(0) => match give_absence(place) {
             Ok(()) => Ok(()),
             Err(stop) => Err(stop),
         },
-        Ok(1) => match bring_back(place, size, buffer) {
+        Ok(1) => match give_back(place, size, buffer) {
             Ok(()) => Ok(()),
             Err(stop) => Err(stop),
         },
@@ -117,7 +141,7 @@ fn restore<P: Place>(place: &mut P, size: u64, buffer: &mut [u8]) -> Result<(), 
     }
 }
 
-/// Makes the target what was saved, where something is.
+/// Makes the target what was saved, where something is and it isn't that already.
 #[tactic(auto, using(crate::proofs::Obeyed::empty_bad, crate::proofs::Obeyed::rolls_none, crate::proofs::Obeyed::rolls_bad, crate::proofs::Obeyed::rolls_cut))]
 pub(crate) fn roll_back<P: Place>(place: &mut P, buffer: &mut [u8]) -> Result<(), Stop>
     requires on { (P.means place.old).on ≡ true }

@@ -24,10 +24,12 @@ pub trait Place {
     /// What the place means.
     ghost means: { Self → Contents };
 
-    /// How many bytes a slot has, or `None` where it is absent.
+    /// How many bytes a slot has, or `None` where it is absent. It fails where what stands at the target is neither a file nor
+    /// absent.
     fn length(&mut self, slot: Slot) -> Result<Option<u64>, Down>
         ensures ends { EndsWhole (λ m. m) (means self.old) result (means self.new) }
-        ensures value { IfOk result (λ n. WhenTold (means self.old) (n ≡ option_map length (content slot (means self.old)))) };
+        ensures value { IfOk result (λ n. WhenTold (means self.old) (n ≡ option_map length (content slot (means self.old)))) }
+        ensures regular { IfOk result (λ n. WhenTold (means self.old) (slot ≡ Slot.Target → (means self.old).regular ≡ true)) };
 
     /// Reads bytes of a slot from an offset on. Condition: the range lies in the slot.
     fn read(&mut self, slot: Slot, at: u64, into: &mut [u8]) -> Result<(), Down>

@@ -3,7 +3,7 @@
 ghost use Rattle.std.specs.Prelude.{◌≡◌, true, [], length, Some, None, option_map, IfOk, IfErr, OnOk};
 ghost use Rattle.file_module.specs.Contents.{content, InContent, IsThere, WhenTold, with_append, with_settle};
 ghost use Rattle.file_module.specs.Calls.{Gives};
-ghost use Rattle.file_module.specs.Answers.{act_of, IsOfPlace, TouchesFresh, SetsTarget, SetsSaved};
+ghost use Rattle.file_module.specs.Answers.{act_of, IsOfPlace, TouchesFresh, SetsTarget, SetsSaved, Untouched};
 
 use crate::answer::Stop;
 use crate::place::{Place, Slot};
@@ -14,7 +14,9 @@ pub(crate) fn length<P: Place>(place: &mut P, slot: Slot) -> Result<Option<u64>,
     ensures touches { TouchesFresh (act_of result) (P.means place.old) (P.means place.new) }
     ensures cause { IfErr result IsOfPlace }
     ensures same { OnOk result (P.means place.new ≡ P.means place.old) }
+    ensures untouched { Untouched (act_of result) (P.means place.old) (P.means place.new) }
     ensures value { IfOk result (λ n. WhenTold (P.means place.old) (n ≡ option_map length (content slot (P.means place.old)))) }
+    ensures regular { OnOk result (WhenTold (P.means place.old) (slot ≡ Slot.Target → (P.means place.old).regular ≡ true)) }
 {
     match place.length(slot) {
         Ok(count) => Ok(count),
@@ -34,6 +36,7 @@ pub(crate) fn read<P: Place>(
     ensures touches { TouchesFresh (act_of result) (P.means place.old) (P.means place.new) }
     ensures cause { IfErr result IsOfPlace }
     ensures same { OnOk result (P.means place.new ≡ P.means place.old) }
+    ensures untouched { Untouched (act_of result) (P.means place.old) (P.means place.new) }
     ensures same_length { length into.new ≡ length into.old }
     ensures bytes { OnOk result (WhenTold (P.means place.old) (Gives (content slot (P.means place.old)) at into.new)) }
 {

@@ -1,5 +1,7 @@
 //! The module over a place in memory, with a loss of power at each call.
 
+ghost use Rattle.std.specs.Prelude.{◌≡◌};
+
 use crate::{FileAct, MemPlace, Slot, act};
 use device_mem::{LossAt, LossList, Tear};
 use io_model::{FileList, MemSink, MemSource};
@@ -213,7 +215,7 @@ fn cut_off(alloc: Global, row: &Row<'_>) -> Result<(bool, u32), Fail> {
 #[test]
 fn a_loss_at_each_call_is_survived(rt: HostRuntime) -> Result<(), Fail> {
     let mut stops = 0u64;
-    for call in 0..32 {
+    for call in 0..36 {
         for before in [true, false] {
             for tear in [Tear::Old, Tear::New, Tear::Byte(7)] {
                 for target in [Some(b"old".as_slice()), None] {
@@ -230,5 +232,78 @@ fn a_loss_at_each_call_is_survived(rt: HostRuntime) -> Result<(), Fail> {
         }
     }
     assert!(rt; 0 < stops);
+    Ok(())
+}
+
+/// What is saved, the target, and what a rollback makes of it.
+struct Back {
+    saved: &'static [u8],
+    target: Option<&'static [u8]>,
+    wanted: Option<&'static [u8]>,
+}
+
+const BACKS: &[Back] = &[
+    Back {
+        saved: b"\x01old",
+        target: Some(b"old"),
+        wanted: Some(b"old"),
+    },
+    Back {
+        saved: b"\x01",
+        target: Some(b""),
+        wanted: Some(b""),
+    },
+    Back {
+        saved: b"\x00",
+        target: None,
+        wanted: None,
+    },
+    Back {
+        saved: b"\x01old",
+        target: Some(b"olD"),
+        wanted: Some(b"old"),
+    },
+    Back {
+        saved: b"\x01old",
+        target: Some(b"older"),
+        wanted: Some(b"old"),
+    },
+    Back {
+        saved: b"\x01old",
+        target: None,
+        wanted: Some(b"old"),
+    },
+];
+
+fn put(place: &mut MemPlace, slot: Slot, bytes: &[u8])
+    requires { place.old.room ≡ 16 }
+    ensures { place.new.room ≡ place.old.room }
+{
+    if bytes.len() <= 16 {
+        place.set(slot, bytes);
+    }
+}
+
+/// A place where something fresh was begun.
+fn halfway(alloc: Global, back: &Back) -> Result<MemPlace, Fail> {
+    let none = LossList::new(alloc);
+    let mut place = MemPlace::new(alloc, 16, none, CallList::new(alloc))?;
+    put(&mut place, Slot::Fresh, b"half");
+    put(&mut place, Slot::Saved, back.saved);
+    if let Some(bytes) = back.target {
+        put(&mut place, Slot::Target, bytes);
+    }
+    Ok(place)
+}
+
+#[test]
+fn a_target_that_is_back_is_not_written(rt: HostRuntime) -> Result<(), Fail> {
+    for back in BACKS {
+        let mut place = halfway(rt.alloc(), back)?;
+        let (ended, _) = ask(rt.alloc(), "ArtifactRollback", ONE, &mut place)?;
+        assert_eq!(rt; ended, FileAct::Done);
+        assert!(rt; place.content(Slot::Target) == back.wanted);
+        assert!(rt; place.content(Slot::Fresh).is_some() == (back.target == back.wanted));
+    }
     Ok(())
 }

@@ -4,15 +4,16 @@ ghost use Rattle.std.specs.Prelude.{◌≡◌, ◌<◌, ◌∷◌, [], true, Som
 ghost use Rattle.std.specs.Prelude.{option_map};
 ghost use Rattle.file_module.specs.Contents.{WhenTold};
 ghost use Rattle.io_model.specs.Source.{count_of, bytes_at};
-ghost use Rattle.file_module.specs.Answers.{act_of, source_after, Counts, IsOfPlace, IsOfWriting, TouchesFresh, SetsTarget, SetsSaved, Replaces};
+ghost use Rattle.file_module.specs.Answers.{act_of, source_after, Counts, IsOfPlace, IsOfWriting, TouchesFresh, SetsTarget, SetsSaved, Replaces, GivesBack};
 ghost use Rattle.file_module.specs.Copying.{rest, HoldsFile};
 ghost use Rattle.file_module.specs.Payload.{When, IsPayload, payloads};
 ghost use Rattle.file_module.specs.Saved.{spelling, saved_after};
 
 use crate::answer::Stop;
+use crate::compare::is_back;
 use crate::copy::{copy_file, copy_slot};
 use crate::place::{Place, Slot};
-use crate::steps::{append, length, move_to_saved, move_to_target, settle, start};
+use crate::steps::{append, length, move_to_saved, move_to_target, remove_target, settle, start};
 use io_model::Source;
 
 /// Begins the fresh content with this byte.
@@ -77,7 +78,7 @@ pub(crate) fn save_once<P: Place>(place: &mut P, buffer: &mut [u8]) -> Result<()
 }
 
 /// Makes the target what is saved, behind its first byte.
-pub(crate) fn bring_back<P: Place>(place: &mut P, size: u64, buffer: &mut [u8]) -> Result<(), Stop>
+fn bring_back<P: Place>(place: &mut P, size: u64, buffer: &mut [u8]) -> Result<(), Stop>
     requires on { (P.means place.old).on ≡ true }
     requires size { WhenTold (P.means place.old) (option_map length (P.means place.old).saved ≡ Some size) }
     requires head { 0 < size }
@@ -91,6 +92,41 @@ pub(crate) fn bring_back<P: Place>(place: &mut P, size: u64, buffer: &mut [u8]) 
     copy_slot(place, Slot::Saved, 1, size, buffer)?;
     settle(place)?;
     move_to_target(place)
+}
+
+/// Makes the target what is saved, behind its first byte, where it isn't that already.
+#[tactic(auto, using(crate::proofs::Restoring::gives_none, crate::proofs::Restoring::gives_anew, crate::proofs::Restoring::gives_cut))]
+pub(crate) fn give_back<P: Place>(place: &mut P, size: u64, buffer: &mut [u8]) -> Result<(), Stop>
+    requires on { (P.means place.old).on ≡ true }
+    requires size { WhenTold (P.means place.old) (option_map length (P.means place.old).saved ≡ Some size) }
+    requires head { 0 < size }
+    requires some { 0 < length buffer.old }
+    ensures counts { Counts (act_of result) (P.means place.old) (P.means place.new) }
+    ensures saved { (P.means place.new).saved ≡ (P.means place.old).saved }
+    ensures gives { WhenTold (P.means place.old) (GivesBack (act_of result) (Some (rest 1 (P.means place.old).saved)) (P.means place.old) (P.means place.new)) }
+    ensures cause { IfErr result IsOfPlace }
+{
+    match is_back(place, size, buffer) {
+        Ok(true) => Ok(()),
+        Ok(false) => bring_back(place, size, buffer),
+        Err(stop) => Err(stop),
+    }
+}
+
+/// Makes the target absent, where it isn't so already.
+#[tactic(auto, using(crate::proofs::Restoring::gives_none, crate::proofs::Restoring::gives_anew, crate::proofs::Restoring::gives_cut))]
+pub(crate) fn give_absence<P: Place>(place: &mut P) -> Result<(), Stop>
+    requires { (P.means place.old).on ≡ true }
+    ensures counts { Counts (act_of result) (P.means place.old) (P.means place.new) }
+    ensures saved { (P.means place.new).saved ≡ (P.means place.old).saved }
+    ensures gives { WhenTold (P.means place.old) (GivesBack (act_of result) None (P.means place.old) (P.means place.new)) }
+    ensures cause { IfErr result IsOfPlace }
+{
+    match length(place, Slot::Target) {
+        Ok(None) => Ok(()),
+        Ok(Some(_)) => remove_target(place),
+        Err(stop) => Err(stop),
+    }
 }
 
 /// Writes a file of the source into the fresh content, and settles it.

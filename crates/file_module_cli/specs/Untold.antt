@@ -4,4 +4,4 @@ use Rattle.file_module.specs.Contents.{Contents}
 
 -- whether the fresh content is settled, and how many calls failed
 abbrev pub untold : Bool → ℕ → Contents
-untold settled failed = record { on = true; told = false; target = None; saved = None; fresh = None; settled = settled; faults = failed; losses = 0 }
+untold settled failed = record { on = true; told = false; regular = true; target = None; saved = None; fresh = None; settled = settled; faults = failed; losses = 0 }

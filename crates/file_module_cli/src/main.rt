@@ -6,17 +6,24 @@ mod place;
 
 use crate::place::HostPlace;
 use file_module::{FileAct, act};
-use host_edge::{HostFault, HostSink, cannot_start, fill_streams, source_of, words_of};
+use host_edge::{
+    Failure, Failures, HostFault, HostSink, Lockable, cannot_start, fill_streams, say_first,
+    source_of, words_of,
+};
 use std::alloc::Global;
+use std::os::unix::fs::FileExt;
 use std::process::ExitCode;
-use std::rt::Files;
+use std::rt::{Clock, Files};
 
 /// The place above the folder that the second word names. Without such a word nothing is done there.
-fn place_of<R: Files + Drop>(
+fn place_of<R: Files + Clock + Drop>(
     rt: R,
     alloc: Global,
     words: &[String],
-) -> Result<HostPlace<R>, HostFault> {
+) -> Result<HostPlace<R>, HostFault>
+where
+    R::File: FileExt + Lockable,
+{
     let folder = match words {
         [_, folder, ..] => folder.as_str(),
         _ => "",
@@ -24,30 +31,50 @@ fn place_of<R: Files + Drop>(
     Ok(HostPlace::above(rt, alloc, folder)?)
 }
 
-/// Does what the words say.
-fn obey<R: Files + Print + Drop>(
+/// Does what the words say. What failed first is noted.
+fn obey<R: Files + Clock + Print + Drop>(
     rt: R,
     alloc: Global,
     words: &[String],
-) -> Result<FileAct, HostFault> {
+    noted: &mut Failures,
+) -> Result<FileAct, HostFault>
+where
+    R::File: FileExt + Lockable,
+{
     let mut out = HostSink::new(&rt);
-    let mut source = source_of(&rt, alloc, words)?;
+    let mut source = source_of(&rt, alloc, words, noted)?;
     let mut place = place_of(&rt, alloc, words)?;
     let mut buffer = [0u8; 65_536];
-    Ok(act(words, &mut source, &mut place, &mut out, &mut buffer))
+    let ended = act(words, &mut source, &mut place, &mut out, &mut buffer);
+    place.hand_first(noted);
+    source.hand_first(noted);
+    out.hand_first(noted);
+    Ok(ended)
+}
+
+/// Does what the words of the command line say, and ends with the number of its answer. What failed first is noted.
+fn run(rt: &HostRuntime, noted: &mut Failures) -> ExitCode {
+    let _streams = match fill_streams(rt) {
+        Ok(streams) => streams,
+        Err(reason) => {
+            noted.note(Failure::of("/dev/null", reason));
+            return cannot_start(rt, HostFault::NoStore);
+        }
+    };
+    let Ok(words) = words_of(rt) else {
+        return cannot_start(rt, HostFault::NoMemory);
+    };
+    match obey(rt, rt.alloc(), words.as_slice(), noted) {
+        Ok(ended) => ExitCode::from(ended.number()),
+        Err(fault) => cannot_start(rt, fault),
+    }
 }
 
 fn main(rt: HostRuntime) -> ExitCode {
-    let Ok(_streams) = fill_streams(&rt) else {
-        return cannot_start(&rt, HostFault::NoStore);
-    };
-    let Ok(words) = words_of(&rt) else {
-        return cannot_start(&rt, HostFault::NoMemory);
-    };
-    match obey(&rt, rt.alloc(), words.as_slice()) {
-        Ok(ended) => ExitCode::from(ended.number()),
-        Err(fault) => cannot_start(&rt, fault),
-    }
+    let mut noted = Failures::none();
+    let ended = run(&rt, &mut noted);
+    say_first(&rt, &noted);
+    ended
 }
 
 #[cfg(test)]

@@ -1,7 +1,11 @@
 //! The module over real files.
 
+mod noting;
+mod syncs;
+
 use crate::obey;
 use file_module::FileAct;
+use host_edge::Failures;
 use std::fs;
 use std::io::ErrorKind;
 use std::os::unix::fs::PermissionsExt;
@@ -12,13 +16,18 @@ const TARGET: &str = "module/root/target";
 
 const SAVED: &str = "module/root/target.saved";
 
-/// How one call ends.
-fn ended(rt: &HostRuntime, word: &str) -> Result<FileAct, Fail> {
+/// How one call ends. What failed first is noted.
+fn ended_noting(rt: &HostRuntime, word: &str, noted: &mut Failures) -> Result<FileAct, Fail> {
     let words = [
         String::from_str(rt.alloc(), word)?,
         String::from_str(rt.alloc(), "module/work/0000")?,
     ];
-    obey(rt, rt.alloc(), &words).map_err(|_| "it didn't start".into())
+    obey(rt, rt.alloc(), &words, noted).map_err(|_| "it didn't start".into())
+}
+
+fn ended(rt: &HostRuntime, word: &str) -> Result<FileAct, Fail> {
+    let mut noted = Failures::none();
+    ended_noting(rt, word, &mut noted)
 }
 
 /// Whether a file has these bytes, or isn't there.
@@ -69,11 +78,38 @@ fn a_file_is_replaced_and_given_back(rt: HostRuntime) -> Result<(), Fail> {
     fs::write(&rt, TARGET, b"old")?;
     fs::set_permissions(&rt, TARGET, fs::Permissions::from_mode(0o750))?;
     assert_eq!(rt; go_through(&rt, Some(b"old"), b"\x01old")?, 0o750);
-    fs::remove_file(&rt, TARGET)?;
-    fs::create_dir(&rt, TARGET)?;
-    assert_eq!(rt; ended(&rt, "ArtifactInstall")?, FileAct::DiskFault);
     fs::write(&rt, "module/work/0000/files/other", b"abc")?;
     assert_eq!(rt; ended(&rt, "Download")?, FileAct::BadPayload(2));
+    rt.remove_dir_all(rt.alloc(), "module")?;
+    Ok(())
+}
+
+/// Whether the word leaves the link in the target's place, and says so.
+fn is_refused(rt: &HostRuntime, word: &str) -> Result<bool, Fail> {
+    let mut noted = Failures::none();
+    let refused = ended_noting(rt, word, &mut noted)? == FileAct::DiskFault;
+    let Some(failure) = noted.first() else {
+        return Ok(false);
+    };
+    let said = format!(in rt.alloc(); "{failure}")?;
+    let is_left = rt.symlink_metadata(TARGET)?.is_symlink();
+    Ok(refused && is_left && said.ends_with("/root/target: it isn't a regular file"))
+}
+
+#[test]
+fn a_link_is_never_replaced(rt: HostRuntime) -> Result<(), Fail> {
+    fs::create_dir_all(&rt, "module/work/0000/files")?;
+    fs::create_dir(&rt, "module/root")?;
+    fs::write(&rt, "module/work/0000/files/app.bin", b"abc")?;
+    fs::write(&rt, TARGET, b"old")?;
+    assert_eq!(rt; ended(&rt, "ArtifactInstall")?, FileAct::Done);
+    rt.rename(TARGET, "module/root/elsewhere")?;
+    rt.symlink("elsewhere", TARGET)?;
+    for word in ["Download", "ArtifactInstall", "ArtifactRollback"] {
+        assert!(rt; is_refused(&rt, word)?, "{word}");
+    }
+    assert!(rt; holds(&rt, SAVED, Some(b"\x01old"))?);
+    assert!(rt; holds(&rt, "module/root/elsewhere", Some(b"abc"))?);
     rt.remove_dir_all(rt.alloc(), "module")?;
     Ok(())
 }

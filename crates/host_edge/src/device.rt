@@ -3,10 +3,13 @@
 ghost use Rattle.std.specs.Prelude.{◌≡◌, ◌-◌, ◌<◌, IfOk, [], ◌∷◌, ◌++◌};
 ghost use Rattle.host_edge.specs.Host.{host_state};
 
-use crate::children;
-use crate::counting::answered;
+use crate::children::{self, Program};
+use crate::clear::clear;
 use crate::disk::open_store;
+use crate::endings::are_ignored;
+use crate::failure::{Failure, Failures, named, told};
 use crate::fault::HostFault;
+use crate::lock::Lockable;
 use crate::paths::Paths;
 use crate::site::site_of;
 use crate::work::{self, Tail};
@@ -15,26 +18,26 @@ use device_model::{
 };
 use script_names::Site;
 use std::alloc::Global;
-use std::fs::{self, File, OpenFile};
+use std::fs::{self, OpenFile};
+use std::io::{self, ErrorKind};
 use std::os::unix::fs::FileExt;
-use std::process::Processes;
+use std::path::PathBuf;
+use std::process::{Processes, Stdio};
 use std::rt::{Clock, Files};
-use std::time::Duration;
-use std::{io, thread};
 use upd_text::{Name, Text32};
 
 /// A device whose disk is the file `store` of a folder, and whose modules are the programs in its folder `modules/v3`. Each
 /// failed file call is a counted fault. It never answers `Off`.
 #[derive(Drop)]
-pub struct HostDevice<R: Files<File = File> + Processes + Clock + Drop> {
+pub struct HostDevice<R: Files + Processes + Clock + Drop> {
     rt: R,
     alloc: Global,
     paths: Paths,
-    store: File,
+    store: R::File,
     /// The file of the work folder that stays open for further bytes.
-    tail: Option<Tail>,
+    tail: Option<Tail<R::File>>,
     journal: EventList,
-    failed: u64,
+    failures: Failures,
 }
 
 /// Notes an event, for which there is room.
@@ -68,29 +71,83 @@ fn query_word(query: Query) -> &'static str {
 }
 
 /// The absolute paths of a data folder. An empty word names none.
-fn paths_of<R: Files>(rt: &R, alloc: Global, folder: &str) -> Result<Paths, HostFault> {
-    match rt.metadata(folder) {
-        Ok(kind) if kind.is_dir() && !folder.is_empty() => {}
-        _ => return Err(HostFault::NoFolder),
-    }
-    match rt.canonicalize(alloc, folder) {
+fn paths_of<R: Files>(
+    rt: &R,
+    alloc: Global,
+    folder: &str,
+    noted: &mut Failures,
+) -> Result<Paths, HostFault>
+    ensures { noted.new.count ≡ noted.old.count }
+{
+    match real_folder(rt, alloc, folder) {
         Ok(path) => Ok(Paths::below(alloc, path.as_str())?),
-        Err(error) => Err(HostFault::of(&error, HostFault::NoFolder)),
+        Err(error) => Err(noted.refuse(alloc, folder, error, HostFault::NoFolder)),
     }
 }
 
-impl<R: Files<File = File> + Processes + Clock + Drop> HostDevice<R> {
+/// The absolute path of a folder.
+fn real_folder<R: Files>(rt: &R, alloc: Global, folder: &str) -> io::Result<PathBuf> {
+    if folder.is_empty() {
+        return Err(io::Error::from(ErrorKind::NotFound));
+    }
+    if !rt.metadata(folder)?.is_dir() {
+        return Err(io::Error::from(ErrorKind::NotADirectory));
+    }
+    rt.canonicalize(alloc, folder)
+}
+
+/// The store of a device whose children's ends can be learnt.
+fn store_of<R: Files + Processes + Clock>(
+    rt: &R,
+    alloc: Global,
+    paths: &Paths,
+    noted: &mut Failures,
+) -> Result<R::File, HostFault>
+where
+    R::File: Lockable,
+    ensures { noted.new.count ≡ noted.old.count }
+{
+    if are_ignored(rt, alloc, paths.folder.as_str()) {
+        let reason = io::Error::new(
+            ErrorKind::Other,
+            "it is ignored, so no child's end can be learnt",
+        );
+        noted.note(Failure::of("SIGCHLD", reason));
+        return Err(HostFault::NoStore);
+    }
+    let path = paths.store.as_str();
+    match open_store(rt, alloc, path) {
+        Ok(store) => Ok(store),
+        Err(error) => Err(noted.refuse(alloc, path, error, HostFault::NoStore)),
+    }
+}
+
+impl<R: Files + Processes + Clock + Drop> HostDevice<R>
+where
+    R::File: FileExt + Lockable + Into<Stdio>,
+{
     /// Opens the device of a data folder, and reads its type and its scripts. The store is made where it isn't there, and grown
     /// where it is short. The faults are found in the order of their numbers.
     pub fn attach(rt: R, alloc: Global, folder: &str) -> Result<(HostDevice<R>, Site), HostFault>
-        ensures { IfOk result (λ r. host_state r.0.journal.events r.0.journal.room r.0.failed ≡ host_state [] ROOM 0) }
+        ensures { IfOk result (λ r. host_state r.0.journal.events r.0.journal.room r.0.failures.count ≡ host_state [] ROOM 0) }
     {
-        let paths = paths_of(&rt, alloc, folder)?;
-        let site = site_of(&rt, alloc, &paths)?;
-        let store = match open_store(&rt, alloc, paths.store.as_str()) {
-            Ok(store) => store,
-            Err(error) => return Err(HostFault::of(&error, HostFault::NoStore)),
-        };
+        let mut noted = Failures::none();
+        HostDevice::attach_noting(rt, alloc, folder, &mut noted)
+    }
+
+    /// The same, where what can't be had is noted.
+    pub fn attach_noting(
+        rt: R,
+        alloc: Global,
+        folder: &str,
+        noted: &mut Failures,
+    ) -> Result<(HostDevice<R>, Site), HostFault>
+        ensures device { IfOk result (λ r. host_state r.0.journal.events r.0.journal.room r.0.failures.count ≡ host_state [] ROOM 0) }
+        ensures noted { noted.new.count ≡ noted.old.count }
+    {
+        let paths = paths_of(&rt, alloc, folder, noted)?;
+        let site = site_of(&rt, alloc, &paths, noted)?;
+        let store = store_of(&rt, alloc, &paths, noted)?;
         let journal = EventList::with_room(alloc, ROOM)?;
         let device = HostDevice {
             rt,
@@ -99,46 +156,79 @@ impl<R: Files<File = File> + Processes + Clock + Drop> HostDevice<R> {
             store,
             tail: None,
             journal,
-            failed: 0,
+            failures: Failures::none(),
         };
         Ok((device, site))
     }
 
-    /// Calls a module with the state's name and the absolute path of its work folder, in which it runs.
-    fn call_module(&self, payload: u8, kind: &Name, state: ModState) -> io::Result<u8> {
-        let program = self.paths.module(self.alloc, kind.bytes())?;
-        let tree = self.paths.tree(payload)?;
-        fs::create_dir_all(&self.rt, tree)?;
-        let word = word_of(state);
-        children::run(
-            &self.rt,
+    /// The calls that failed, and the children that weren't started.
+    pub fn failures(&self) -> &Failures {
+        &self.failures
+    }
+
+    /// Notes elsewhere what failed first.
+    pub fn hand_first(&mut self, noted: &mut Failures)
+        ensures { noted.new.count ≡ noted.old.count }
+    {
+        noted.follow(&mut self.failures);
+    }
+
+    /// The folder of a payload's module, which is made where it isn't there.
+    fn tree(&self, payload: u8) -> Result<&str, Failure> {
+        let tree = named(
             self.alloc,
-            program.as_str(),
-            word,
-            Some(tree),
-            tree,
-        )
+            self.paths.work.as_str(),
+            self.paths.tree(payload),
+        )?;
+        named(self.alloc, tree, fs::create_dir_all(&self.rt, tree))?;
+        Ok(tree)
+    }
+
+    /// The path of the module for a payload type.
+    fn module(&self, kind: &Name) -> Result<String, Failure> {
+        let path = self.paths.module(self.alloc, kind.bytes());
+        named(self.alloc, "modules/v3", path)
+    }
+
+    /// Calls a module with the state's name and the absolute path of its work folder, in which it runs.
+    fn call_module(&self, payload: u8, kind: &Name, state: ModState) -> Result<u8, Failure> {
+        let module = self.module(kind)?;
+        let tree = self.tree(payload)?;
+        let program = Program {
+            path: module.as_str(),
+            first: word_of(state),
+            second: Some(tree),
+            folder: tree,
+        };
+        children::run(&self.rt, self.alloc, program)
     }
 
     /// Asks a module in the same way.
-    fn ask_module(&self, payload: u8, kind: &Name, query: Query) -> io::Result<(u8, Text32)> {
-        let program = self.paths.module(self.alloc, kind.bytes())?;
-        let tree = self.paths.tree(payload)?;
-        fs::create_dir_all(&self.rt, tree)?;
-        let word = query_word(query);
-        let reply = self.paths.reply.as_str();
-        let (rt, alloc) = (&self.rt, self.alloc);
-        children::ask(rt, alloc, program.as_str(), word, Some(tree), tree, reply)
+    fn ask_module(&self, payload: u8, kind: &Name, query: Query) -> Result<(u8, Text32), Failure> {
+        let module = self.module(kind)?;
+        let tree = self.tree(payload)?;
+        let program = Program {
+            path: module.as_str(),
+            first: query_word(query),
+            second: Some(tree),
+            folder: tree,
+        };
+        children::ask(&self.rt, self.alloc, program, self.paths.reply.as_str())
     }
 
-    /// Runs a shell script in the data folder.
-    fn run_shell(&self, script: &str) -> io::Result<u8> {
-        let folder = self.paths.folder.as_str();
-        children::run(&self.rt, self.alloc, "sh", script, None, folder)
+    /// Runs the shell in the data folder, with one word or two.
+    fn run_shell(&self, first: &str, second: Option<&str>) -> Result<u8, Failure> {
+        let program = Program {
+            path: "sh",
+            first,
+            second,
+            folder: self.paths.folder.as_str(),
+        };
+        children::run(&self.rt, self.alloc, program)
     }
 
     /// The exit code of a child that is no question. An error says that it was not started.
-    fn started(&self, call: &Call) -> io::Result<u8> {
+    fn started(&self, call: &Call) -> Result<u8, Failure> {
         match call {
             Call::Module {
                 payload,
@@ -146,23 +236,36 @@ impl<R: Files<File = File> + Processes + Clock + Drop> HostDevice<R> {
                 state,
             } => self.call_module(*payload, kind, *state),
             Call::Script(name) => {
-                let script = self.paths.script(self.alloc, name.bytes())?;
-                self.run_shell(script.as_str())
+                let script = self.paths.script(self.alloc, name.bytes());
+                let script = named(self.alloc, "scripts", script)?;
+                self.run_shell(script.as_str(), None)
             }
-            Call::SystemReboot => self.run_shell(self.paths.reboot()),
-            Call::Ask { .. } => Err(io::Error::from(io::ErrorKind::InvalidInput)),
+            Call::SystemReboot => self.run_shell(self.paths.reboot(), None),
+            Call::Ask { .. } => Err(Failure::of(
+                "a question",
+                io::Error::from(ErrorKind::InvalidInput),
+            )),
         }
+    }
+
+    /// Has a child sleep so many seconds. How it ends says nothing.
+    fn sleep(&self, seconds: u32) -> Result<u8, Failure> {
+        let line = format!(in self.alloc; "sleep {seconds}")?;
+        self.run_shell("-c", Some(line.as_str()))
     }
 }
 
-impl<R: Files<File = File> + Processes + Clock + Drop> Device for HostDevice<R> {
+impl<R: Files + Processes + Clock + Drop> Device for HostDevice<R>
+where
+    R::File: FileExt + Lockable + Into<Stdio>,
+{
     ghost use Rattle.std.specs.Prelude.{None};
 
     type Plan = ();
 
     ghost plan = { λ _. None };
 
-    ghost means = { λ d. host_state d.journal.events d.journal.room d.failed };
+    ghost means = { λ d. host_state d.journal.events d.journal.room d.failures.count };
 
     ghost whole = { λ _. tt };
 
@@ -172,35 +275,38 @@ impl<R: Files<File = File> + Processes + Clock + Drop> Device for HostDevice<R> 
 
     fn disk_read(&mut self, at: u32, into: &mut [u8]) -> Result<(), Down> {
         let done = self.store.read_exact_at(into, u64::from(at));
-        answered(&mut self.failed, done)
+        let done = named(self.alloc, self.paths.store.as_str(), done);
+        told(&mut self.failures, done)
     }
 
     fn disk_write(&mut self, at: u32, bytes: &[u8]) -> Result<(), Down> {
         let done = self.store.write_all_at(bytes, u64::from(at));
-        answered(&mut self.failed, done)
+        let done = named(self.alloc, self.paths.store.as_str(), done);
+        told(&mut self.failures, done)
     }
 
     fn disk_sync(&mut self) -> Result<(), Down> {
         let done = self.store.sync_data();
-        answered(&mut self.failed, done)
+        let done = named(self.alloc, self.paths.store.as_str(), done);
+        told(&mut self.failures, done)
     }
 
     fn work_clear(&mut self) -> Result<(), Down> {
         self.tail = None;
-        let done = work::clear(&self.rt, self.alloc, &self.paths);
-        answered(&mut self.failed, done)
+        let done = clear(&self.rt, self.alloc, &self.paths);
+        told(&mut self.failures, done)
     }
 
     fn work_append(&mut self, part: Part, path: &Name, bytes: &[u8]) -> Result<(), Down> {
         let last = &mut self.tail;
         let done = work::append(&self.rt, self.alloc, &self.paths, last, part, path, bytes);
-        answered(&mut self.failed, done)
+        told(&mut self.failures, done)
     }
 
     fn work_sync(&mut self) -> Result<(), Down> {
         self.tail = None;
         let done = work::sync(&self.rt, self.alloc, &self.paths);
-        answered(&mut self.failed, done)
+        told(&mut self.failures, done)
     }
 
     fn run_child(&mut self, call: &Call) -> Ran {
@@ -211,7 +317,8 @@ impl<R: Files<File = File> + Processes + Clock + Drop> Device for HostDevice<R> 
                 note(&mut self.journal, Event::End(Answer::Exit(code)));
                 Ran::Exit(code)
             }
-            Err(_) => {
+            Err(failure) => {
+                self.failures.note(failure);
                 note(&mut self.journal, Event::End(Answer::NotStarted));
                 Ran::NotStarted
             }
@@ -234,7 +341,8 @@ impl<R: Files<File = File> + Processes + Clock + Drop> Device for HostDevice<R> 
                 );
                 Asked::Reply(code, text)
             }
-            Err(_) => {
+            Err(failure) => {
+                self.failures.note(failure);
                 note(&mut self.journal, Event::End(Answer::NotStarted));
                 Asked::NotStarted
             }
@@ -243,7 +351,7 @@ impl<R: Files<File = File> + Processes + Clock + Drop> Device for HostDevice<R> 
 
     fn pause(&mut self, seconds: u32) -> Result<(), Off> {
         note(&mut self.journal, Event::Pause(seconds));
-        thread::sleep(&self.rt, Duration::from_secs(u64::from(seconds)));
+        let _ = self.sleep(seconds);
         Ok(())
     }
 }

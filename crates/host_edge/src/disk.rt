@@ -1,29 +1,23 @@
 //! The store as a file.
 
 use crate::files::joined;
+use crate::lock::{Lockable, hold};
 use device_model::AREA;
 use std::alloc::Global;
-use std::fs::{File, OpenFile, OpenOptions, TryLockError};
+use std::fs::{OpenFile, OpenOptions};
 use std::io::{ErrorKind, Seek, SeekFrom, Write};
 use std::rt::{Clock, Files};
-use std::time::Duration;
-use std::{fs, io, thread};
+use std::{fs, io};
 
 /// What a store that is short is filled with, so many bytes at once.
 const ZEROS: [u8; 4096] = [0; 4096];
 
-/// How often a store that another client holds is tried, and how many milliseconds apart: two seconds in all.
-const TRIES: u32 = 40;
-
-const BETWEEN_MILLIS: u64 = 50;
-
 /// The store, a regular file that is open for this client alone, with at least the bytes of the area. What it lacks is written
 /// as zeros. Anything else that stands there is neither opened nor written.
-pub fn open_store<R: Files<File = File> + Clock>(
-    rt: &R,
-    alloc: Global,
-    path: &str,
-) -> io::Result<File> {
+pub fn open_store<R: Files + Clock>(rt: &R, alloc: Global, path: &str) -> io::Result<R::File>
+where
+    R::File: Lockable,
+{
     let mut store = open_file(rt, path)?;
     hold(rt, &store)?;
     let size = store.metadata()?.len();
@@ -47,12 +41,12 @@ fn sync_name<R: Files>(rt: &R, alloc: Global, path: &str) -> io::Result<()> {
 }
 
 fn not_a_file() -> io::Error {
-    io::Error::from(ErrorKind::InvalidInput)
+    io::Error::new(ErrorKind::InvalidInput, "it is no regular file")
 }
 
 /// Opens the file, which is made where nothing stands. It is looked at before, since to open a device may do something, and
 /// after, since another may stand there by then.
-fn open_file<R: Files<File = File>>(rt: &R, path: &str) -> io::Result<File> {
+fn open_file<R: Files>(rt: &R, path: &str) -> io::Result<R::File> {
     match rt.metadata(path) {
         Ok(kind) if !kind.is_file() => return Err(not_a_file()),
         _ => {}
@@ -66,21 +60,6 @@ fn open_file<R: Files<File = File>>(rt: &R, path: &str) -> io::Result<File> {
         return Err(not_a_file());
     }
     Ok(store)
-}
-
-/// Holds the file for this client alone. Where another client holds it, it is tried again for two seconds.
-pub fn hold<R: Clock>(rt: &R, store: &File) -> io::Result<()> {
-    for _ in 0..TRIES {
-        match store.try_lock() {
-            Ok(()) => return Ok(()),
-            Err(TryLockError::WouldBlock) => thread::sleep(
-                rt,
-                Duration::from_millis(BETWEEN_MILLIS),
-            ),
-            Err(TryLockError::Error(error)) => return Err(error),
-        }
-    }
-    Err(io::Error::from(ErrorKind::WouldBlock))
 }
 
 /// Writes zeros from the file's end up to the area's end.

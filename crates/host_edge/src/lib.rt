@@ -2,12 +2,18 @@
 #![tactic(auto)]
 
 mod children;
+mod clear;
 mod counting;
 mod device;
 mod disk;
+mod endings;
+mod failure;
 mod fault;
 mod files;
+mod lock;
 mod paths;
+mod progress;
+mod reply;
 mod sink;
 mod site;
 mod source;
@@ -17,11 +23,13 @@ mod work;
 
 pub use counting::answered;
 pub use device::HostDevice;
-pub use disk::hold;
+pub use failure::{Failure, Failures, named, told};
 pub use fault::HostFault;
+pub use lock::{Lockable, hold};
+pub use progress::{Progress, Watched, asks_progress};
 pub use sink::HostSink;
 pub use source::{HostSource, source_of};
-pub use start::{cannot_start, fill_streams};
+pub use start::{cannot_start, fill_streams, say_first};
 pub use words::words_of;
 
 #[cfg(test)]

@@ -17,8 +17,8 @@ pub struct Paths {
     pub folder: String,
     pub store: String,
     pub work: String,
-    /// The folder of each module, by the payload's number.
-    pub trees: Vec<String>,
+    /// The folders of the work folder: that of each module, by the payload's number, and behind them the artifact's scripts.
+    pub parts: Vec<String>,
     /// The artifact's scripts.
     pub work_scripts: String,
     modules: String,
@@ -27,24 +27,26 @@ pub struct Paths {
     pub reply: String,
 }
 
-fn tree_paths(alloc: Global, work: &str) -> Result<Vec<String>, AllocError> {
-    let mut trees = Vec::new(alloc);
+fn part_paths(alloc: Global, work: &str, scripts: &str) -> Result<Vec<String>, AllocError> {
+    let mut parts = Vec::new(alloc);
     for payload in 0..TREES {
         let name = format!(in alloc; "{payload:04}")?;
-        trees.push(joined(alloc, work, name.as_str())?)?;
+        parts.push(joined(alloc, work, name.as_str())?)?;
     }
-    Ok(trees)
+    parts.push(String::from_str(alloc, scripts)?)?;
+    Ok(parts)
 }
 
 impl Paths {
     /// The paths below an absolute one.
     pub fn below(alloc: Global, folder: &str) -> Result<Paths, AllocError> {
         let work = joined(alloc, folder, "work")?;
+        let work_scripts = joined(alloc, work.as_str(), "scripts")?;
         Ok(Paths {
             folder: String::from_str(alloc, folder)?,
             store: joined(alloc, folder, "store")?,
-            trees: tree_paths(alloc, work.as_str())?,
-            work_scripts: joined(alloc, work.as_str(), "scripts")?,
+            parts: part_paths(alloc, work.as_str(), work_scripts.as_str())?,
+            work_scripts,
             work,
             modules: joined(alloc, folder, "modules/v3")?,
             scripts: joined(alloc, folder, "scripts")?,
@@ -53,9 +55,17 @@ impl Paths {
         })
     }
 
+    /// The folders of the modules, by the payload's number.
+    pub fn trees(&self) -> &[String] {
+        match self.parts.as_slice() {
+            [trees @ .., _scripts] => trees,
+            [] => &[],
+        }
+    }
+
     /// The folder of a payload's module.
     pub fn tree(&self, payload: u8) -> io::Result<&str> {
-        match self.trees.get(usize::from(payload)) {
+        match self.trees().get(usize::from(payload)) {
             Some(tree) => Ok(tree.as_str()),
             None => Err(io::Error::from(ErrorKind::InvalidInput)),
         }

@@ -3,6 +3,7 @@
 ghost use Rattle.std.specs.Prelude.{◌≡◌};
 ghost use Rattle.host_edge.specs.Faults.{answer_of, count_of};
 
+use crate::failure::{Failure, Failures};
 use io_model::{Sink, SinkFault};
 use std::io::{self, Write};
 
@@ -10,26 +11,41 @@ use std::io::{self, Write};
 #[derive(Drop)]
 pub struct HostSink<R: Print + Drop> {
     rt: R,
-    failed: u64,
+    failures: Failures,
 }
 
 impl<R: Print + Drop> HostSink<R> {
     pub fn new(rt: R) -> HostSink<R>
-        ensures { result.failed ≡ 0 }
+        ensures { result.failures.count ≡ 0 }
     {
-        HostSink { rt, failed: 0 }
+        HostSink {
+            rt,
+            failures: Failures::none(),
+        }
+    }
+
+    /// The writes that failed.
+    pub fn failures(&self) -> &Failures {
+        &self.failures
+    }
+
+    /// Notes elsewhere what failed first.
+    pub fn hand_first(&mut self, noted: &mut Failures)
+        ensures { noted.new.count ≡ noted.old.count }
+    {
+        noted.follow(&mut self.failures);
     }
 }
 
 /// Counts a write that failed.
-fn settle(failed: &mut u64, done: io::Result<()>) -> Result<(), SinkFault>
+fn settle(failures: &mut Failures, done: io::Result<()>) -> Result<(), SinkFault>
     ensures answer { result ≡ answer_of (record {}) done }
-    ensures count { failed.new ≡ count_of failed.old done }
+    ensures count { failures.new.count ≡ count_of failures.old.count done }
 {
     match done {
         Ok(()) => Ok(()),
-        Err(_) => {
-            *failed = failed.saturating_add(1);
+        Err(reason) => {
+            failures.add(Failure::of("standard output", reason));
             Err(SinkFault)
         }
     }
@@ -38,10 +54,10 @@ fn settle(failed: &mut u64, done: io::Result<()>) -> Result<(), SinkFault>
 impl<R: Print + Drop> Sink for HostSink<R> {
     ghost use Rattle.std.specs.Prelude.{None};
 
-    ghost means = { λ s. record { told = None; faults = s.failed } };
+    ghost means = { λ s. record { told = None; faults = s.failures.count } };
 
     fn put(&mut self, bytes: &[u8]) -> Result<(), SinkFault> {
         let done = io::writer(&self.rt).write_all(bytes);
-        settle(&mut self.failed, done)
+        settle(&mut self.failures, done)
     }
 }

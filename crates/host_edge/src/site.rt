@@ -1,5 +1,8 @@
 //! What the device says of itself.
 
+ghost use Rattle.std.specs.Prelude.{◌≡◌};
+
+use crate::failure::Failures;
 use crate::fault::HostFault;
 use crate::files::{joined, named_in, names_in, read_start};
 use crate::paths::Paths;
@@ -10,12 +13,21 @@ use std::rt::Files;
 use upd_text::{Name, read_device_type};
 
 /// The device's type, from the first line of the file `device_type` of the data folder, and its own scripts.
-pub fn site_of<R: Files>(rt: &R, alloc: Global, paths: &Paths) -> Result<Site, HostFault> {
+/// What can't be had is noted.
+pub fn site_of<R: Files>(
+    rt: &R,
+    alloc: Global,
+    paths: &Paths,
+    noted: &mut Failures,
+) -> Result<Site, HostFault>
+    ensures { noted.new.count ≡ noted.old.count }
+{
     let names = match script_names_of(rt, alloc, paths.scripts()) {
         Ok(names) => names,
-        Err(error) => return Err(HostFault::of(&error, HostFault::NoFolder)),
+        Err(error) => return Err(noted.refuse(alloc, paths.scripts(), error, HostFault::NoFolder)),
     };
-    let device_type = type_of(rt, alloc, paths.folder.as_str())?;
+    let path = joined(alloc, paths.folder.as_str(), "device_type")?;
+    let device_type = type_of(rt, alloc, path.as_str(), noted)?;
     let mut scripts = ScriptList::new(alloc);
     for name in names.as_slice() {
         add_script(rt, alloc, paths.scripts(), name.as_slice(), &mut scripts)?;
@@ -26,18 +38,31 @@ pub fn site_of<R: Files>(rt: &R, alloc: Global, paths: &Paths) -> Result<Site, H
     })
 }
 
-fn type_of<R: Files>(rt: &R, alloc: Global, folder: &str) -> Result<Name, HostFault> {
-    let path = joined(alloc, folder, "device_type")?;
+fn type_of<R: Files>(
+    rt: &R,
+    alloc: Global,
+    path: &str,
+    noted: &mut Failures,
+) -> Result<Name, HostFault>
+    ensures { noted.new.count ≡ noted.old.count }
+{
     // The longest right line has 140 bytes.
     let mut text = [0; 256];
-    let size = match read_start(rt, path.as_str(), &mut text) {
+    let size = match read_start(rt, path, &mut text) {
         Ok(size) => size,
-        Err(error) => return Err(HostFault::of(&error, HostFault::NoDeviceType)),
+        Err(error) => return Err(noted.refuse(alloc, path, error, HostFault::NoDeviceType)),
     };
     match read_device_type(&text[..size]) {
         Some(device_type) => Ok(device_type),
-        None => Err(HostFault::BadDeviceType),
+        None => Err(noted.refuse(alloc, path, bad_line(), HostFault::BadDeviceType)),
     }
+}
+
+fn bad_line() -> io::Error {
+    io::Error::new(
+        ErrorKind::InvalidData,
+        "its first line isn't device_type= and a name",
+    )
 }
 
 /// The names in the folder of scripts, which may be absent, and may be a link to a folder.

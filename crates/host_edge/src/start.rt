@@ -1,5 +1,6 @@
 //! What a program of the host does before and in place of its work.
 
+use crate::failure::Failures;
 use crate::fault::HostFault;
 use std::fs::OpenOptions;
 use std::io;
@@ -24,4 +25,11 @@ pub fn cannot_start<R: Eprint>(rt: &R, fault: HostFault) -> ExitCode {
     let number = fault.number();
     let _ = eprintln!(rt; "cannot start {number}");
     ExitCode::from(15)
+}
+
+/// Says on standard error what failed first. What can't be written there is let go.
+pub fn say_first<R: Eprint>(rt: &R, failures: &Failures) {
+    if let Some(failure) = failures.first() {
+        let _ = eprintln!(rt; "{failure}");
+    }
 }

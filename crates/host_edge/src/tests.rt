@@ -1,8 +1,11 @@
 //! Real files, folders and programs. Each test has a folder of its own, and leaves nothing behind.
 
 mod children;
+mod edges;
+mod noting;
 mod start;
 mod streams;
+mod syncs;
 mod work;
 
 use crate::HostDevice;

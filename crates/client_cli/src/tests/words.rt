@@ -1,6 +1,7 @@
 //! Words that are no command, and what can't be had of the host.
 
-use super::{answer, begin, end, shell};
+use super::{answer, answer_noting, begin, end, same, shell};
+use host_edge::Failures;
 use std::rt::Files;
 use std::test::Fail;
 
@@ -54,4 +55,37 @@ fn the_device_is_asked_for_before_the_tree(rt: HostRuntime) -> Result<(), Fail> 
         assert_eq!(rt; answer(&rt, line)?.as_str(), wanted, "{line}");
     }
     end(&rt, "starts")
+}
+
+/// What failed first in a command.
+fn failed_first(rt: &HostRuntime, line: &str) -> Result<String, Fail> {
+    let mut noted = Failures::none();
+    answer_noting(rt, line, &mut noted)?;
+    match noted.first() {
+        Some(failure) => Ok(format!(in rt.alloc(); "{failure}")?),
+        None => Ok(String::new(rt.alloc())),
+    }
+}
+
+#[test]
+fn what_failed_first_is_noted(rt: HostRuntime) -> Result<(), Fail> {
+    begin(&rt, "first")?;
+    shell(&rt, rt.alloc(), "mkdir tree; mkfifo tree/version")?;
+    // the words, and what failed
+    let rows: &[(&str, &str)] = &[
+        ("show-artifact", ""),
+        (
+            "--data nowhere commit",
+            "nowhere: No such file or directory (os error 2)",
+        ),
+        (
+            "check nowhere",
+            "nowhere/: No such file or directory (os error 2)",
+        ),
+        ("check tree", "tree/version: invalid input parameter"),
+    ];
+    for (line, wanted) in rows {
+        same(line, failed_first(&rt, line)?.as_str(), wanted)?;
+    }
+    end(&rt, "first")
 }

@@ -128,8 +128,6 @@ fn each_call_has_its_program(rt: HostRuntime) -> Result<(), Fail> {
     // the shell is started where the script isn't there, and ends with a code of its own
     let missing = Call::Script(name(b"ArtifactInstall_Leave_00")?);
     assert!(rt; matches!(ended(&mut device, &missing)?, Ran::Exit(_)));
-    assert!(rt; device.room() >= 3);
-    assert_eq!(rt; device.pause(0), Ok(()));
     end(&rt, "calls")
 }
 
@@ -137,7 +135,7 @@ fn each_call_has_its_program(rt: HostRuntime) -> Result<(), Fail> {
 fn questions_are_answered(rt: HostRuntime) -> Result<(), Fail> {
     begin(&rt, "questions")?;
     let mut device = device_here(&rt)?;
-    let rows: [(&str, u8, &[u8]); 7] = [
+    let rows: &[(&str, u8, &[u8])] = &[
         ("#!/bin/sh\necho \"$1\"\n", 0, b"SupportsRollback\n"),
         ("#!/bin/sh\nprintf Yes\nexit 3\n", 3, b"Yes"),
         ("#!/bin/sh\nexit 0\n", 0, b""),
@@ -157,6 +155,9 @@ fn questions_are_answered(rt: HostRuntime) -> Result<(), Fail> {
             b"Yes",
         ),
         ("#!/bin/sh\nprintf Yes; kill -9 $$\n", 255, b"Yes"),
+        // one that opens its output anew
+        ("#!/bin/sh\necho Yes > /dev/stdout\n", 0, b"Yes\n"),
+        ("#!/bin/sh\nprintf Ye; echo s >> /dev/stdout\n", 0, b"Yes\n"),
     ];
     let kind = name(b"m")?;
     for (lines, code, text) in rows {
@@ -164,8 +165,8 @@ fn questions_are_answered(rt: HostRuntime) -> Result<(), Fail> {
         assert!(rt; device.room() >= 3);
         match device.ask_child(0, &kind, Query::SupportsRollback) {
             Asked::Reply(ended, reply) => {
-                assert_eq!(rt; ended, code, "{lines}");
-                assert_eq!(rt; reply.bytes(), text, "{lines}");
+                assert_eq!(rt; ended, *code, "{lines}");
+                assert_eq!(rt; reply.bytes(), *text, "{lines}");
             }
             _ => return Err("no reply".into()),
         }
