@@ -1,13 +1,13 @@
 #!/usr/bin/env python3
 """Times installs by the built client, over real files, in a folder of the disk that is meant: of 1 KB with a module that exits
 0 beside six starts of that module, and of a large payload beside `cp`, `sync` of the copy and `sha256sum` of the same file. It
-shows the client's peak of memory in both where GNU time is installed, and, where strace is there, the syncs and the bytes that one install writes to its
-store. Run it by hand after the gate, which builds the client.
+shows the client's peak of memory in both where GNU time is installed, and, where strace is there, the syncs of one install, the
+bytes that it writes to its store, and the folders that it makes. Run it by hand after the gate, which builds the client and
+tree_cli. It works
+in FOLDER, which says which disk is meant; without it in the current one.
 
-usage: bench/install.py [MEBIBYTES [ROUNDS]]
+usage: bench/install.py [MEBIBYTES [ROUNDS [FOLDER [PROGRAM]]]]
 """
-import hashlib
-import json
 import os
 import re
 import shutil
@@ -21,6 +21,7 @@ from show_provides import peak_memory
 
 TOP = os.path.dirname(os.path.dirname(os.path.abspath(__file__)))
 CLIENT = os.path.join(TOP, "crates/client_cli/out/client_cli")
+WRITER = os.path.join(TOP, "crates/tree_cli/out/tree_cli")
 
 # of a deployment that is committed at once
 STATES = 5
@@ -41,23 +42,13 @@ def make_device(data):
 
 def make_tree(tree, size):
     """A tree of one payload file of so many bytes."""
-    header = {
-        "payloads": [{"type": "single-file"}],
-        "artifact_provides": {"artifact_name": "release-2"},
-        "artifact_depends": {"device_type": ["beaglebone"]},
-    }
-    put(tree + "/version", b'{"format":"mender","version":3}')
-    put(tree + "/header/header-info", json.dumps(header).encode())
-    put(tree + "/header/headers/0000/type-info", b'{"type":"single-file"}')
-    os.makedirs(tree + "/data/0000")
-    with open(tree + "/data/0000/app.bin", "wb") as file:
+    files = tree + "-files"
+    os.makedirs(files)
+    with open(files + "/app.bin", "wb") as file:
         for _ in range(size // 1024):
             file.write(os.urandom(1024))
-    lines = b""
-    for name in ["data/0000/app.bin", "header/header-info", "header/headers/0000/type-info", "version"]:
-        with open(tree + "/" + name, "rb") as file:
-            lines += hashlib.file_digest(file, "sha256").hexdigest().encode() + b"  " + name.encode() + b"\n"
-    put(tree + "/manifest", lines)
+    run([WRITER, files, tree, "release-2", "beaglebone", "single-file", "-"])
+    shutil.rmtree(files)
 
 
 def run(words):
@@ -122,25 +113,33 @@ def traced(work, data, tree):
         print("strace isn't there: no syncs are counted")
         return
     log = work + "/trace"
-    calls = "trace=write,pwrite64,fsync,fdatasync"
+    calls = "trace=write,pwrite64,fsync,fdatasync,mkdir"
     run(["strace", "-f", "-y", "-e", calls, "-o", log, CLIENT, "--data", data, "install", tree])
     with open(log, encoding="utf-8", errors="replace") as file:
-        lines = [line for line in file if re.search(r"\(\d+<[^>]*/store>", line)]
-    written = sum(int(line.rsplit("= ", 1)[1].split()[0]) for line in lines if "write" in line.split("(")[0])
-    syncs = sum("sync" in line.split("(")[0] for line in lines)
+        lines = list(file)
+    store = [line for line in lines if re.search(r"\(\d+<[^>]*/store>", line)]
+    written = sum(int(line.rsplit("= ", 1)[1].split()[0]) for line in store if "write" in line.split("(")[0])
+    syncs = sum("sync" in line.split("(")[0] for line in store)
     print(f"the store in one install: {syncs} syncs, {written} bytes written; {STATES + 1} positions are put")
+    folder = sum("sync(" in line and re.search(r"<[^>]*/work(/[^>]*)?>", line) is not None for line in lines)
+    made = sum("mkdir(" in line and line.rstrip().endswith("= 0") for line in lines)
+    print(f"the work folder in one install: {folder} syncs, {made} folders made")
 
 
 def main():
+    global CLIENT
     mebibytes = int(sys.argv[1]) if len(sys.argv) > 1 else 100
     rounds = int(sys.argv[2]) if len(sys.argv) > 2 else 5
+    folder = sys.argv[3] if len(sys.argv) > 3 else "."
+    CLIENT = os.path.abspath(sys.argv[4]) if len(sys.argv) > 4 else CLIENT
     if not os.path.exists(CLIENT):
         sys.exit("the client isn't built: run the gate first")
-    with tempfile.TemporaryDirectory(dir=".") as work:
+    with tempfile.TemporaryDirectory(dir=folder) as work:
         work = os.path.abspath(work)
         data, tree = small(work, 4 * rounds)
         traced(work, data, tree)
         large(work, mebibytes, rounds)
 
 
-main()
+if __name__ == "__main__":
+    main()

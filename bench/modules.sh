@@ -2,14 +2,15 @@
 # Takes the update modules of Debian's package mender-client, as they are, through `install`, `commit`, `rollback` and `resume`
 # behind a kill: single-file, directory, script, and deb with a stand-in for dpkg. The package is unpacked into a folder that is
 # taken away at the end; it is never installed, and nothing of it but the modules is started. Where it can't be had a line says
-# so and nothing is tried. Run by hand over a program that was built; the gate doesn't call it.
-# usage: bench/modules.sh [PROGRAM]
+# so and nothing is tried. Run by hand over the programs that the gate built; the gate doesn't call it.
+# usage: bench/modules.sh [CLIENT]
 # exit: 0 each came to what is wanted, or all was skipped; 1 one didn't
 set -u
 here=$(cd "$(dirname "$0")" && pwd)
 program=${1:-$here/../crates/client_cli/out/client_cli}
 [ -x "$program" ] || { echo "there is no program $program: the gate builds it"; exit 1; }
 program=$(realpath "$program")
+writer=$(realpath "$here/../crates/tree_cli/out/tree_cli") && [ -x "$writer" ] || { echo "there is no tree_cli: the gate builds it"; exit 1; }
 work=$(mktemp -d)
 trap 'rm -rf "$work"' EXIT
 cd "$work" || exit 1
@@ -37,13 +38,8 @@ client() {
 # Makes the tree $1 of a payload of the type $2, whose files are in the folder files.
 tree() {
     rm -rf "$1"
-    mkdir -p "$1/header/headers/0000" "$1/data/0000"
-    printf '{"format":"mender","version":3}' > "$1/version"
-    printf '{"payloads":[{"type":"%s"}],"artifact_provides":{"artifact_name":"%s"},"artifact_depends":{"device_type":"sample"}}' \
-        "$2" "$1" > "$1/header/header-info"
-    printf '{"type":"%s"}' "$2" > "$1/header/headers/0000/type-info"
-    mv files/* "$1/data/0000/"
-    (cd "$1" && sha256sum version header/header-info header/headers/0000/type-info data/0000/* > manifest)
+    "$writer" files "$1" "$1" sample "$2" - || exit 1
+    rm files/*
 }
 
 # A stand-in for the program $1, which does what the program does. Where the file `countdown` has a number, it ends the module

@@ -84,6 +84,7 @@ fn device_of(alloc: Global) -> Option<MemDevice>
         answers: AnswerList::new(alloc),
         supports: Answer::Exit(0),
         needs: Answer::Exit(0),
+        others: AnswerList::new(alloc),
         losses: LossList::new(alloc),
         cuts: CallList::new(alloc),
         faults: CallList::new(alloc),

@@ -59,7 +59,9 @@ add() {
 
 add client_cli 'usage 2 0' 9 --help
 add file_module_cli Yes 0 SupportsRollback "$work/empty"
-add ab_image_cli '' 1 SupportsRollback
+add ab_image_cli '' 15 SupportsRollback
+add scenario_cli '' 2
+add tree_cli '' 15
 {
     commit=$(git rev-parse HEAD 2> "$log") && echo "commit $commit$(git diff --quiet HEAD 2> "$log" || echo ', changed')"
     rt version

@@ -24,6 +24,3 @@ pub use lines::NumberList;
 pub use place::{TreePlace, payload_name, place_of};
 pub use refusal::{AdmitFault, Differs, Refusal, Which};
 pub use sums::{PayloadFault, sum_payloads};
-
-#[cfg(test)]
-mod tests;

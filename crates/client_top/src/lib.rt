@@ -21,6 +21,3 @@ pub use laws::{
     worked_answers, worked_finds,
 };
 pub use status::{Good, NotNow, Status};
-
-#[cfg(test)]
-mod tests;

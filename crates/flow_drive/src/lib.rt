@@ -6,6 +6,3 @@ mod flow;
 mod payloads;
 
 pub use flow::{DriveEnd, drive};
-
-#[cfg(test)]
-mod tests;

@@ -21,6 +21,3 @@ pub use play::simulate;
 pub use program::top;
 pub use runs::{BootRun, CommandList, Runs};
 pub use tree::tree_of;
-
-#[cfg(test)]
-mod tests;

@@ -23,6 +23,3 @@ pub use laws::{
 };
 pub use length::{LARGEST_RECORD, MOST_KINDS, begun_length, encoded_length};
 pub use writer::{encode_into, patch};
-
-#[cfg(test)]
-mod tests;

@@ -2,6 +2,7 @@
 
 mod migrations;
 mod puts;
+mod records;
 mod stops;
 
 ghost use Rattle.std.specs.Prelude.{◌≡◌, ◌≤◌, true, IfOk, IfSome, OnSome, IsTrue};
@@ -149,7 +150,7 @@ fn put_once<D: Device>(alloc: Global, device: &mut D, position: &Position, loads
 #[test]
 fn the_picked_slot_is_read(rt: HostRuntime) -> Result<(), Fail> {
     // the selector, the first bytes of slot 0 and of slot 1, the fault
-    let rows: [(u8, &[u8], &[u8], Option<MountFault>); 6] = [
+    let rows: &[(u8, &[u8], &[u8], Option<MountFault>)] = &[
         (0, b"", b"junk", None),
         (1, b"junk", b"", None),
         (0, b"junk", b"", Some(MountFault::BadStore(0))),
@@ -162,7 +163,7 @@ fn the_picked_slot_is_read(rt: HostRuntime) -> Result<(), Fail> {
             Some(MountFault::BadStore(9)),
         ),
     ];
-    for (selector, first, second, fault) in rows {
+    for &(selector, first, second, fault) in rows {
         let mut area = AreaBytes::zeros(rt.alloc())?;
         area.set(0, &[selector]);
         // without a record no cell is looked at
@@ -187,7 +188,7 @@ fn the_picked_slot_is_read(rt: HostRuntime) -> Result<(), Fail> {
 #[test]
 fn the_picked_cell_is_read(rt: HostRuntime) -> Result<(), Fail> {
     // the cell's selector, the first bytes of cell 0 and of cell 1 of the picked slot, what stands
-    let rows: [(u8, &[u8], &[u8], Result<u8, MountFault>); 8] = [
+    let rows: &[(u8, &[u8], &[u8], Result<u8, MountFault>)] = &[
         (0, b"", b"junk", Ok(5)),
         (1, b"junk", b"", Ok(5)),
         (0, b"MUC1\x00\x02\x00\x00\x07", b"junk", Ok(7)),
@@ -202,7 +203,7 @@ fn the_picked_cell_is_read(rt: HostRuntime) -> Result<(), Fail> {
             Err(MountFault::BadStore(200_008)),
         ),
     ];
-    for (selector, first, second, stands) in rows {
+    for &(selector, first, second, stands) in rows {
         let mut area = area_at_1(rt.alloc(), &RECORD)?;
         // the other slot's cells are not looked at
         area.set(1_024 + 64, b"junk");

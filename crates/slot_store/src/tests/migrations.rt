@@ -110,7 +110,7 @@ fn left_by(
     Ok((selector, count_found(alloc, &mut device)))
 }
 
-const TEARS: [Tear; 5] = [
+const TEARS: &[Tear] = &[
     Tear::Old,
     Tear::New,
     Tear::Byte(0xff),
@@ -128,7 +128,7 @@ fn first_wrong(
     before: bool,
     selectors: [u8; 5],
 ) -> Result<Option<LossAt>, Fail> {
-    for (tear, selector) in TEARS.into_iter().zip(selectors) {
+    for (&tear, selector) in TEARS.iter().zip(selectors) {
         let loss = LossAt { call, before, tear };
         let mut losses = LossList::new(alloc);
         losses.push(loss)?;
@@ -151,7 +151,7 @@ fn a_loss_before_byte_0_is_written_leaves_the_same_entry(rt: HostRuntime) -> Res
 
 #[test]
 fn a_loss_of_byte_0_leaves_the_same_entry(rt: HostRuntime) -> Result<(), Fail> {
-    for (call, before, selectors) in [
+    for &(call, before, selectors) in &[
         (0, true, [1, 1, 1, 1, 1]),
         (8, true, [1, 1, 1, 1, 1]),
         (8, false, [1, 0, 0xff, 0x10, 0x4d]),

@@ -63,7 +63,7 @@ fn after_fault(alloc: Global, way: Way, call: u64) -> Result<Option<u8>, NoMemor
 }
 
 /// What is left of what isn't synced: the old bytes, the new ones, or one byte all over.
-const TEARS: [Tear; 5] = [
+const TEARS: &[Tear] = &[
     Tear::Old,
     Tear::New,
     Tear::Byte(0xff),
@@ -84,7 +84,7 @@ fn first_wrong(
     before: bool,
     counts: [u8; 5],
 ) -> Result<Option<LossAt>, Fail> {
-    for (tear, count) in TEARS.into_iter().zip(counts) {
+    for (&tear, count) in TEARS.iter().zip(counts) {
         let loss = LossAt { call, before, tear };
         if after_loss(alloc, way, loss)? != Some(count) {
             return Ok(Some(loss));
@@ -119,7 +119,7 @@ fn a_loss_before_a_cell_is_synced_leaves_the_old(rt: HostRuntime) -> Result<(), 
 
 #[test]
 fn a_loss_of_a_cells_selector_leaves_the_old_or_the_new(rt: HostRuntime) -> Result<(), Fail> {
-    for (call, before, counts) in [
+    for &(call, before, counts) in &[
         (7, true, [5, 5, 5, 5, 5]),
         (7, false, [5, 6, 6, 5, 6]),
         (8, true, [5, 6, 6, 5, 6]),
@@ -141,7 +141,7 @@ fn a_loss_before_a_record_is_synced_leaves_the_old(rt: HostRuntime) -> Result<()
 
 #[test]
 fn a_loss_of_byte_0_leaves_the_old_or_the_new(rt: HostRuntime) -> Result<(), Fail> {
-    for (call, before, counts) in [
+    for &(call, before, counts) in &[
         (8, true, [5, 5, 5, 5, 5]),
         (8, false, [5, 1, 5, 1, 5]),
         (9, true, [5, 1, 5, 1, 5]),
