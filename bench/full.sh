@@ -132,7 +132,7 @@ else
 fi
 head -c 8388608 /dev/zero > "$work/image"
 if mkfs.ext4 -q -m 0 -b 4096 "$work/image" 2> /dev/null && mount -o loop "$work/image" "$disk" 2> /dev/null; then
-    kind=ext4 most=80
+    kind=ext4 most=140
     all
     umount "$disk"
 else
