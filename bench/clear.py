@@ -35,7 +35,7 @@ def make_wide(folder, width):
 
 def spent(data, tree, make, size):
     install.make_device(data)
-    tmp = data + "/work/0000/tmp"
+    tmp = os.path.join(data, "work", "0000", "tmp")
     os.makedirs(tmp)
     make(tmp, size)
     start = time.perf_counter()

@@ -1,6 +1,6 @@
 #!/bin/sh
-# Starts the built programs so that each exit status comes that files can bring about, and compares it with what the documents
-# say. No proof reaches what a program's `main` ends with. Part of the gate, behind `rt ci`, which leaves the programs in
+# Starts the built programs so that nearly each exit status comes that files can bring about, and compares it with what the
+# documents say. No proof reaches what a program's `main` ends with. Part of the gate, behind `rt ci`, which leaves the programs in
 # crates/*/out/. It needs sh and coreutils.
 # usage: statuses.sh
 # exit: 0 each is as it should be; 1 one isn't; the last line is 'N passed, M failed'
