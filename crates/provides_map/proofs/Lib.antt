@@ -1,4 +1,6 @@
-pub mod Rows
+pub mod Tries
+pub mod Strikes
+pub mod Ends
 pub mod Puts
 pub mod Append
 pub mod Pieces

@@ -19,7 +19,7 @@ suffix_found test (b ∷ bs) h = elim (or_cases (test (b ∷ bs)) (some_suffix t
 ]
 
 -- the test holds of the key itself
-suffix_whole : (test : List ℕ → Bool) (key : List ℕ) → test key ≡ true → some_suffix test key ≡ true
+pub suffix_whole : (test : List ℕ → Bool) (key : List ℕ) → test key ≡ true → some_suffix test key ≡ true
 suffix_whole test [] h = h
 suffix_whole test (b ∷ bs) h = or_left (test (b ∷ bs)) (some_suffix test bs) h
 

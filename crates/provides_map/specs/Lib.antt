@@ -1,8 +1,8 @@
 pub mod Pairs
 pub mod Last
 pub mod Match
-pub mod Row
 pub mod Place
 pub mod After
 pub mod ByKey
 pub mod Merge
+pub mod Marks

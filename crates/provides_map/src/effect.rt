@@ -1,36 +1,13 @@
 ghost use Rattle.std.specs.Prelude.{◌≡◌, ◌≤◌, codes, IfOk};
 ghost use Rattle.std.specs.List.{list_any};
 ghost use Rattle.std.specs.Str.{bytes_eq};
-ghost use Rattle.provides_map.specs.Match.{is_match};
-ghost use Rattle.provides_map.specs.After.{after, broken, HasName, stays, allows, value_of, first_unmet, artifact_name, artifact_group, is_cleared, put_some};
+ghost use Rattle.provides_map.specs.After.{after, broken, HasName, allows, value_of, first_unmet, artifact_name, artifact_group, put_some};
 
-use crate::change::{Change, Clears, PatternList, ValueList, Want, WantList};
+use crate::change::{Change, ValueList, Want, WantList};
 use crate::merge::merged;
 use crate::provides::Provides;
 use std::alloc::Global;
 use upd_text::{Name, NoMemory, Value};
-
-fn any_match(patterns: &PatternList, key: &Name) -> bool
-    ensures { result ≡ list_any (λ p. is_match p key.now) patterns.now }
-{
-    patterns.as_slice().iter().any(|p| p.matches(key))
-}
-
-fn is_cleared(clears: &Clears, key: &Name) -> bool
-    ensures { result ≡ is_cleared clears.now key.now }
-{
-    match clears {
-        Clears::All => true,
-        Clears::Listed(patterns) => any_match(patterns, key),
-    }
-}
-
-// Whether a pair held stays.
-pub(crate) fn stays(clears: &Clears, key: &Name, value: &Value) -> bool
-    ensures { result ≡ stays clears.now (key.now, value.now) }
-{
-    !(key.bytes() == b"artifact_name".as_slice()) && !is_cleared(clears, key)
-}
 
 fn put_some(held: &mut Provides, key: Name, value: &Option<Name>) -> Result<(), NoMemory>
     ensures { IfOk result (λ _. held.new ≡ put_some held.old key value.now) }

@@ -6,6 +6,7 @@ ghost use Rattle.provides_map.specs.Merge.{map_length, is_own, own_length};
 
 use crate::change::Change;
 use crate::effect::{group_key, name_key};
+use crate::marks::Marks;
 use crate::merge::{Places, next_pair};
 use crate::provides::Provides;
 use upd_text::Name;
@@ -62,11 +63,18 @@ pub fn after_length(current: &Provides, change: &Change) -> MapLength
     ensures short { result.bytes ≤ 1156 * result.pairs }
 {
     let mut sum = own_length(change);
+    let mut marks = Marks::of(&change.clears, current, 0);
     let mut at = Places {
         held: 0,
         brought: 0,
     };
-    while let Some((key, value)) = next_pair(&change.clears, current, &change.provides, &mut at) {
+    while let Some((key, value)) = next_pair(
+        &change.clears,
+        current,
+        &change.provides,
+        &mut marks,
+        &mut at,
+    ) {
         if !is_own(change, key) {
             sum = sum.and_pair(key.bytes().len(), value.bytes().len());
         }

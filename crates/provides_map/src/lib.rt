@@ -6,6 +6,7 @@ mod change;
 mod effect;
 mod laws;
 mod length;
+mod marks;
 mod merge;
 mod pattern;
 mod provides;

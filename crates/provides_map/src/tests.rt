@@ -47,7 +47,7 @@ fn are(found: &Provides, pairs: &[(&str, &str)]) -> bool {
 
 // ---- the map
 
-const ORDERS: [(Pairs, Pairs); 3] = [
+const ORDERS: &[(Pairs, Pairs)] = &[
     (&[], &[]),
     (
         &[("b", "1"), ("ab", "2"), ("a", "3"), ("B", "4")],
@@ -66,7 +66,7 @@ fn is_copied(alloc: Global, found: &Provides, pairs: Pairs) -> Result<bool, Fail
 
 #[test]
 fn keys_stand_once_in_byte_order(rt: HostRuntime) -> Result<(), Fail> {
-    for (put, wanted) in &ORDERS {
+    for &(put, wanted) in ORDERS {
         let found = provides(rt.alloc(), put)?;
         assert!(rt; are(&found, wanted));
         assert!(rt; is_copied(rt.alloc(), &found, wanted)?);
@@ -86,7 +86,7 @@ fn has(found: &Provides, key: &str, wanted: Option<&str>) -> Result<bool, Fail> 
 #[test]
 fn gets_what_is_there(rt: HostRuntime) -> Result<(), Fail> {
     let found = provides(rt.alloc(), &[("b", "1"), ("ab", ""), ("d", "3")])?;
-    let cases = [
+    let cases: &[(&str, Option<&str>)] = &[
         ("ab", Some("")),
         ("b", Some("1")),
         ("d", Some("3")),
@@ -94,8 +94,8 @@ fn gets_what_is_there(rt: HostRuntime) -> Result<(), Fail> {
         ("c", None),
         ("e", None),
     ];
-    for (key, wanted) in &cases {
-        assert!(rt; has(&found, key, *wanted)?, "at {key}");
+    for &(key, wanted) in cases {
+        assert!(rt; has(&found, key, wanted)?, "at {key}");
     }
     Ok(())
 }
@@ -149,7 +149,7 @@ const HELD: Pairs = &[
 ];
 
 // The name becomes r1 in each.
-const ROWS: [Row; 8] = [
+const ROWS: &[Row] = &[
     Row {
         held: HELD,
         group: None,
@@ -315,7 +315,7 @@ fn wants(alloc: Global, wanted: &[(&str, Texts)]) -> Result<WantList, Fail> {
 }
 
 // On a device of the type `beaglebone` that holds `app.version=1`, `device_type=other` and `e=`.
-const WANTS: [(&[(&str, Texts)], Option<&str>); 9] = [
+const WANTS: &[(&[(&str, Texts)], Option<&str>)] = &[
     (&[], None),
     (&[("device_type", &["beaglebone"])], None),
     (&[("device_type", &["qemux86-64", "beaglebone"])], None),
@@ -343,13 +343,13 @@ fn is_key(found: &Option<Name>, wanted: Option<&str>) -> bool {
 
 #[test]
 fn tells_the_first_unmet_want(rt: HostRuntime) -> Result<(), Fail> {
-    let pairs = [("app.version", "1"), ("device_type", "other"), ("e", "")];
-    let held = provides(rt.alloc(), &pairs)?;
+    let pairs: Pairs = &[("app.version", "1"), ("device_type", "other"), ("e", "")];
+    let held = provides(rt.alloc(), pairs)?;
     let device = name("beaglebone")?;
-    for (i, (wanted, unmet)) in WANTS.iter().enumerate() {
+    for (i, &(wanted, unmet)) in WANTS.iter().enumerate() {
         let wants = wants(rt.alloc(), wanted)?;
         assert!(rt;
-            is_key(&first_unmet(&wants, &device, &held), *unmet),
+            is_key(&first_unmet(&wants, &device, &held), unmet),
             "at {i}"
         );
     }
@@ -359,7 +359,7 @@ fn tells_the_first_unmet_want(rt: HostRuntime) -> Result<(), Fail> {
 // ---- patterns
 
 // The last two end at once only where a star isn't tried at each place in turn.
-const PATTERNS: [(&str, &str, bool); 17] = [
+const PATTERNS: &[(&str, &str, bool)] = &[
     ("*a*", "bab", true),
     ("*a*", "a", true),
     ("*a*", "bbb", false),
@@ -373,6 +373,12 @@ const PATTERNS: [(&str, &str, bool); 17] = [
     ("a*b*c", "a-c-b", false),
     ("?", "x", false),
     ("*.*", "rootfs-image.version", true),
+    ("a*a", "a", false),
+    ("a*bc", "abbc", true),
+    ("a*bc", "abcb", false),
+    ("*ab*b*", "aabab", true),
+    ("*ab*ba*", "aabbbab", true),
+    ("*ab*ab*", "bbaba", false),
     ("a", "*", false),
     ("*", "*", true),
     (STARS, ALMOST, false),
@@ -396,8 +402,8 @@ fn is_matched(pattern: &str, key: &str) -> Result<bool, Fail> {
 
 #[test]
 fn patterns_match(rt: HostRuntime) -> Result<(), Fail> {
-    for (pattern, key, wanted) in &PATTERNS {
-        assert!(rt; is_matched(pattern, key)? == *wanted, "at {pattern}");
+    for &(pattern, key, wanted) in PATTERNS {
+        assert!(rt; is_matched(pattern, key)? == wanted, "at {pattern}");
     }
     Ok(())
 }

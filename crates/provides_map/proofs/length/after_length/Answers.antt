@@ -9,6 +9,7 @@ use Rattle.provides_map.proofs.length.after_length.Goals as goal
 
 pub loop-key-init : goal.loop-key-init
 loop-key-init c = record {
+  marked = c.of-marks.ensures.marks;
   within = record { held = omega arith; brought = omega arith };
   few = c.own_length-sum.ensures.few;
   short = c.own_length-sum.ensures.short;

@@ -3,6 +3,7 @@ use Rattle.std.specs.List.{sum_by, filter}
 use Rattle.provides_map.specs.Pairs.{put_all}
 use Rattle.provides_map.specs.After.{stays}
 use Rattle.provides_map.specs.Merge.{rest, AreWithin, pair_length, if_not_own, own_sum}
+use Rattle.provides_map.specs.Marks.{AreMarks}
 use Rattle.provides_map.proofs.length.after_length.Given as goal
 
 abbrev one : List ℕ × List ℕ → ℕ
@@ -10,6 +11,7 @@ one p = 1
 
 abbrev pub invariant-loop-key : goal.invariant-loop-key
 invariant-loop-key l = record {
+  marked : AreMarks l.change.clears l.current l.marks;
   within : AreWithin l.current l.change.provides l.at;
   few : l.sum.pairs ≤ 2 + (l.at.held + l.at.brought);
   short : l.sum.bytes ≤ 1156 * l.sum.pairs;

@@ -1,13 +1,13 @@
-use Rattle.std.proofs.Common.{◌≤◌, length, drop}
+use Rattle.std.proofs.Common.{◌≡◌, ◌≤◌, ◌-◌, length, drop}
 use Rattle.provides_map.specs.Match.{is_match}
-use Rattle.provides_map.specs.Row.{Shows}
 use Rattle.provides_map.proofs.pattern.matches.Given as goal
 
 abbrev pub invariant-loop-i : goal.invariant-loop-i
 invariant-loop-i l = record {
   within : l.i ≤ length l.pattern;
-  shows : Shows (is_match (drop l.i l.pattern)) l.row l.key;
+  in_key : l.i ≤ length l.key;
+  same : is_match (drop l.i l.pattern) (drop l.i l.key) ≡ is_match l.pattern l.key;
 }
 
 abbrev pub decreases-loop-i : goal.decreases-loop-i
-decreases-loop-i l = l.i
+decreases-loop-i l = length l.pattern - l.i
