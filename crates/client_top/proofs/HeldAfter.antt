@@ -20,7 +20,7 @@ use Rattle.record_codec.specs.Held.{held}
 use Rattle.record_codec.specs.Spelling.{IsRight, IfFull}
 use Rattle.client_top.specs.Finds.{Request, begun}
 use Rattle.client_top.specs.Boot.{Boot, nothing, stays, runs, begins as begins_untold, breaks_off, is_stop}
-use Rattle.client_top.specs.Promises.{Enters, Was, BreaksIn, Mixed, before, here, Holds, same, old, new, mixed}
+use Rattle.client_top.specs.Promises.{Enters, Was, BreaksIn, Mixed, before, here, KeepsOld, Holds, same, old, new, mixed}
 use Rattle.client_top.proofs.Starts.{Started, goes_on, begins, started}
 
 -- what is known where a deployment starts at p
@@ -50,11 +50,11 @@ began c e p right (begins plan is fresh) = subst (Began c e) (sym fresh) (clean 
 
 module _ (asked : Request) (c : Db) (e : Entry) (p : Position) (events : List Event) (b : Began c e p) (enters : Enters asked c e p) where
   by-outcome : (q : Position) (o : Outcome) → q.outcome ≡ o → (q.outcome ≡ outcome.Committed → Was outcome.Committed c ⊎ HasCommit e.kinds events) → (q.outcome ≡ outcome.Inconsistent → Mixed asked c e p events) → Holds asked c events (at e q)
-  by-outcome q outcome.Undecided is commits breaks = old e p enters (ap (λ (x : Outcome). held (at e (record q { outcome = x }))) is)
-  by-outcome q outcome.Kept is commits breaks = old e p enters (ap (λ (x : Outcome). held (at e (record q { outcome = x }))) is)
-  by-outcome q outcome.RolledBack is commits breaks = old e p enters (ap (λ (x : Outcome). held (at e (record q { outcome = x }))) is)
-  by-outcome q outcome.Committed is commits breaks = new e p enters (ap (λ (x : Outcome). held (at e (record q { outcome = x }))) is) (commits is)
-  by-outcome q outcome.Inconsistent is commits breaks = mixed e p enters (ap (λ (x : Outcome). held (at e (record q { outcome = x }))) is) (breaks is)
+  by-outcome q outcome.Undecided is commits breaks = old e p enters (subst KeepsOld (sym is) tt) (ap (λ (x : Outcome). held (at e (record q { outcome = x }))) is)
+  by-outcome q outcome.Kept is commits breaks = old e p enters (subst KeepsOld (sym is) tt) (ap (λ (x : Outcome). held (at e (record q { outcome = x }))) is)
+  by-outcome q outcome.RolledBack is commits breaks = old e p enters (subst KeepsOld (sym is) tt) (ap (λ (x : Outcome). held (at e (record q { outcome = x }))) is)
+  by-outcome q outcome.Committed is commits breaks = new e p enters is (ap (λ (x : Outcome). held (at e (record q { outcome = x }))) is) (commits is)
+  by-outcome q outcome.Inconsistent is commits breaks = mixed e p enters is (ap (λ (x : Outcome). held (at e (record q { outcome = x }))) is) (breaks is)
 
   went : (end : End) (q : Position) → Goes asked.site e (is_stop asked.command) p events end q → Holds asked c events (at e q)
   went end q g = by-outcome q q.outcome refl

@@ -8,6 +8,8 @@ pub mod Looking
 pub mod Givens
 pub mod Fulfilled
 pub mod HeldAfter
+pub mod Waits
+pub mod Answered
 pub mod Going
 pub mod Mounts
 pub mod Composed

@@ -21,7 +21,9 @@ use Rattle.provides_map.specs.After.{broken}
 use Rattle.record_codec.specs.declared.entry.Entry.{Entry}
 use Rattle.record_codec.specs.declared.entry.Db.{Db}
 use Rattle.record_codec.specs.declared.entry.Db.TheVariants.{Empty, Full}
-use Rattle.record_codec.specs.Held.{held}
+use Rattle.record_codec.specs.Held.{held, position_of}
+use Rattle.provides_map.specs.Pairs.{Pairs}
+use Rattle.flow_drive.specs.Drive.{at}
 use Rattle.client_top.specs.declared.status.Status.{Status}
 use Rattle.client_top.specs.declared.status.Status.TheVariants.{Done, RebootNeeded, NotInstalled, Inconsistent}
 use Rattle.client_top.specs.declared.status.Good.TheVariants as good
@@ -124,10 +126,40 @@ pub data Mixed (asked : Request) (c : Db) (e : Entry) (p : Position) (events : L
   before : BreaksIn c → Mixed asked c e p events
   here : Broke (word_at (callees asked.site e)) (is_stop asked.command) p events → Mixed asked c e p events
 
--- What a boot from c with these events leaves held: what was held before it or before its deployment, the new once its modules
--- were called to commit and exited 0, or the new, marked.
+-- a deployment with this outcome leaves what was held before it: it neither committed nor became inconsistent
+abbrev pub KeepsOld : Outcome → Type 0
+KeepsOld outcome.Undecided = ⊤
+KeepsOld outcome.Kept = ⊤
+KeepsOld outcome.RolledBack = ⊤
+KeepsOld outcome.Committed = ⊥
+KeepsOld outcome.Inconsistent = ⊥
+
+-- What a boot from c with these events leaves held. Nothing changed; or a deployment stands, and by its outcome the old is held;
+-- the new, once its modules were called to commit and exited 0; or the new, marked.
 pub data Holds (asked : Request) (c : Db) (events : List Event) (d : Db) : Type 0 where
   same : d ≡ c → Holds asked c events d
-  old : (e : Entry) (p : Position) → Enters asked c e p → held d ≡ e.before → Holds asked c events d
-  new : (e : Entry) (p : Position) → Enters asked c e p → held d ≡ e.new → Was outcome.Committed c ⊎ HasCommit e.kinds events → Holds asked c events d
-  mixed : (e : Entry) (p : Position) → Enters asked c e p → held d ≡ broken e.new → Mixed asked c e p events → Holds asked c events d
+  old : (e : Entry) (p : Position) → Enters asked c e p → KeepsOld (position_of d).outcome → held d ≡ e.before → Holds asked c events d
+  new : (e : Entry) (p : Position) → Enters asked c e p → Was outcome.Committed d → held d ≡ e.new → Was outcome.Committed c ⊎ HasCommit e.kinds events → Holds asked c events d
+  mixed : (e : Entry) (p : Position) → Enters asked c e p → Was outcome.Inconsistent d → held d ≡ broken e.new → Mixed asked c e p events → Holds asked c events d
+
+-- what an answer says is held that tells how a deployment stands: the new, the old, or the new, marked
+abbrev pub told_by : Status → Entry → Option Pairs
+told_by (Done good.Committed) e = Some e.new
+told_by (Done good.Waiting) e = Some e.before
+told_by (Done good.RolledBack) e = Some e.before
+told_by Inconsistent e = Some (broken e.new)
+told_by RebootNeeded e = Some e.before
+told_by (NotInstalled how) e = Some e.before
+told_by _ e = None
+
+-- the deployment that c has, or one that a plan makes over what c holds
+abbrev pub IsFrom : Db → Entry → Type 0
+IsFrom c e = (c ≡ Full e) ⊎ ((plan : Admitted) × (e ≡ begun c plan))
+
+-- behind a boot from c the database d has a deployment, and holds of it what the answer says
+pub record TellsHeld (c : Db) (status : Status) (d : Db) : Type 0 where
+  pub deployment : Entry
+  pub position : Position
+  pub from : IsFrom c deployment
+  pub stands : d ≡ at deployment position
+  pub holds : told_by status deployment ≡ Some (held d)

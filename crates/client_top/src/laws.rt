@@ -1,6 +1,6 @@
 //! Laws of what a command promises.
 
-ghost use Rattle.std.specs.Prelude.{◌≡◌, ◌≢◌, ◌⊎◌, ℕ, Bool, true, false, List, [], Option, Some, None, Ok, IfSome};
+ghost use Rattle.std.specs.Prelude.{◌≡◌, ◌≢◌, ◌⊎◌, ℕ, Bool, true, false, List, [], Option, Some, None, Ok, IfSome, IsTrue};
 ghost use Rattle.upd_text.specs.Counts.{Rose};
 ghost use Rattle.device_model.specs.declared.calls.Event.{Event};
 ghost use Rattle.device_model.specs.Disk.{IsTold, area_of};
@@ -21,7 +21,7 @@ ghost use Rattle.client_top.specs.Finds.{Request, Found, Answers, Starts, finds}
 ghost use Rattle.client_top.specs.Boot.{Boot, Fits};
 ghost use Rattle.client_top.specs.Answers.{row_of, end_of, deploys};
 ghost use Rattle.client_top.specs.Did.{Did, Shelf, prepares};
-ghost use Rattle.client_top.specs.Promises.{IsUntied, Replies, Calm, Fulfils, IsWell, Holds, IsGiven, answer_for};
+ghost use Rattle.client_top.specs.Promises.{IsUntied, Replies, Calm, Fulfils, IsOver, IsWell, Holds, TellsHeld, IsGiven, answer_for};
 ghost use Rattle.client_top.specs.Examples.{Numbers, Ends, Texts, OverNothing, InProgresses, Ids};
 
 use crate::status::Status;
@@ -86,10 +86,19 @@ pub fn installs_go_well()
         → (status ≡ Status.NoMemory) ⊎ IsWell status }
 {}
 
-/// What is held after a boot: the old, after a commit the new, or the new, marked, for one of the three causes.
+/// What is held after a boot: the old, unless a deployment committed or became inconsistent; after a commit the new; or the new,
+/// marked, for one of the three causes.
 pub fn the_old_or_the_new_is_held()
     ensures { (asked : Request) (c d : Db) (events : List Event) (end : Option End)
         → IfFull IsRight c → Boot asked c events end d → Holds asked c events d }
+{}
+
+/// What an answer says is held: `committed` exactly what the deployment provides; `inconsistent` that, marked; `rolled back`,
+/// `not installed`, `waiting` and `reboot needed` exactly what was held before it.
+pub fn answers_tell_what_is_held()
+    ensures { (asked : Request) (c d : Db) (events : List Event) (status : Status)
+        → IfFull IsRight c → IsTrue ((row_of status).whose asked.command) → Boot asked c events (end_of status) d
+        → IsOver (end_of status) → TellsHeld c status d }
 {}
 
 /// A resume without a fault enters more states than were entered before, or ends the deployment, or answers want of memory.

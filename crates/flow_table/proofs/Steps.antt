@@ -1,5 +1,5 @@
 -- What each step of the tables makes of a valid position.
-use Rattle.std.proofs.Common.{◌≡◌, ◌≢◌, ◌⊎◌, ℕ, ◌+◌, ◌<◌, ◌≤◌, Bool, true, false, cond, nat_lt, refl, sym, subst, inl, inr, arith}
+use Rattle.std.proofs.Common.{◌≡◌, ◌≢◌, ◌⊎◌, ◌∙◌, ℕ, ◌+◌, ◌<◌, ◌≤◌, Bool, true, false, cond, nat_lt, refl, sym, subst, inl, inr, arith}
 use Rattle.std.specs.Prelude.{⊤, ◌&&◌, nat_le}
 use Rattle.std.proofs.lemmas.Bool.{and_parts, and_from}
 use Rattle.std.proofs.lemmas.Bool.Decides.{nat_tests}
@@ -20,7 +20,7 @@ use Rattle.flow_table.specs.declared.table.Opening.{Opening}
 use Rattle.flow_table.specs.declared.table.Opening.TheVariants as opening
 use Rattle.flow_table.specs.Valid.{is_valid, is_outcome, is_undoable, is_reboot, is_count}
 use Rattle.flow_table.specs.Table.{IsRunning, enter_of, undo_of, settled, after_install, after_rollback, next_by, next_of, lost_by, lost_of, first_by, first_of, at_running, at_reboot, at_wait}
-use Rattle.flow_table.specs.Laws.{is_fine, IsTrial, Breaks, already, no_rollback, rollback_failed, limit, BreaksAtLoss, already_at_loss, no_rollback_at_loss, limit_at_loss}
+use Rattle.flow_table.specs.Laws.{is_fine, IsTrial, IsUndoneAtLoss, Breaks, already, no_rollback, rollback_failed, limit, BreaksAtLoss, already_at_loss, no_rollback_at_loss, limit_at_loss}
 
 -- a valid position, by its fields
 pub record Fits (s : State) (p : Position) : Type 0 where
@@ -278,7 +278,7 @@ tries p s u o can b n r = goes_on p.outcome (BreaksAtLoss p) (p.outcome ≡ Comm
 retries : (p : Position) (s : State) → p.outcome ≡ Undecided → Lost p (enter_of p s Undecided) → Lost p (enter_of p s p.outcome)
 retries p s u l = subst (λ (o : Outcome). Lost p (enter_of p s o)) (sym u) l
 
-trial_lost : (s : State) (p : Position) → p.state ≡ s → IsTrial s → p.outcome ≡ Undecided → InRange p.n → Lost p (undo_of p)
+trial_lost : (s : State) (p : Position) → p.state ≡ s → IsUndoneAtLoss s → p.outcome ≡ Undecided → InRange p.n → Lost p (undo_of p)
 trial_lost s p e t u r = undoes p.outcome (BreaksAtLoss p) (p.outcome ≡ Committed) p u r (λ can. no_rollback_at_loss (rw e t) can) (λ n. limit_at_loss n u)
 
 lost_row : (s : State) (p : Position) → IsRunning s → p.state ≡ s → Fits s p → InRange p.n → Lost p (lost_by s p)
@@ -364,3 +364,15 @@ next_entered p q h stop v e = subst (λ (s : Step). After p h s) e (next_leads p
 
 pub first_entered : (p q : Position) (o : Order) → is_valid p ≡ true → first_of p o ≡ opening.Enter q → Lost p q
 first_entered p q o v e = subst (λ (s : Opening). Opens p s) e (first_leads p o v)
+
+-- ---- at Reboot
+
+-- a position at Reboot is undecided, and a loss of power takes nothing back
+pub at_reboot_limits : (p : Position) → is_valid p ≡ true → p.state ≡ Reboot → BreaksAtLoss p → p.n ≡ 28
+unfolding is_outcome
+at_reboot_limits p v at (already_at_loss is) =
+    let open_yet : p.outcome ≡ Undecided = undecided p.outcome (subst (λ (s : State). is_outcome s p.outcome ≡ true) at (fits_of p v).outcome) in
+    let no : Undecided ≡ Inconsistent = sym open_yet ∙ is in
+    absurd cc
+at_reboot_limits p v at (no_rollback_at_loss back cannot) = let no : ⊥ = subst IsUndoneAtLoss at back in absurd no
+at_reboot_limits p v at (limit_at_loss is u) = is

@@ -24,6 +24,13 @@ IsTrial VerifyReboot = ⊤
 IsTrial Commit = ⊤
 IsTrial _ = ⊥
 
+-- the states in which a loss of power takes back what was installed
+abbrev pub IsUndoneAtLoss : State → Type 0
+IsUndoneAtLoss Install = ⊤
+IsUndoneAtLoss VerifyReboot = ⊤
+IsUndoneAtLoss Commit = ⊤
+IsUndoneAtLoss _ = ⊥
+
 -- a state was entered and counted, or the deployment ended
 pub data Counted (p q : Position) : Type 0 where
   entered : q.state ≢ Idle → p.n < 28 → q.n ≡ p.n + 1 → Counted p q
@@ -43,5 +50,5 @@ pub data Breaks (p : Position) (heard : Heard) : Type 0 where
 -- why the deployment is inconsistent after the power was lost in a state, or an order was given
 pub data BreaksAtLoss (p : Position) : Type 0 where
   already_at_loss : p.outcome ≡ Inconsistent → BreaksAtLoss p
-  no_rollback_at_loss : IsTrial p.state → p.undoable ≡ false → BreaksAtLoss p
+  no_rollback_at_loss : IsUndoneAtLoss p.state → p.undoable ≡ false → BreaksAtLoss p
   limit_at_loss : p.n ≡ 28 → p.outcome ≡ Undecided → BreaksAtLoss p

@@ -66,3 +66,13 @@ pub fn inconsistency_has_a_cause()
     ensures first { (p q : Position) (order : Order) → IsTrue (is_valid p)
         → first_of p order ≡ opening.Enter q → q.outcome ≡ Inconsistent → BreaksAtLoss p }
 {}
+
+/// Before it is known how a reboot ended, neither a loss of power nor an order breaks a deployment, but for the limit: also one
+/// that can't be rolled back goes on.
+pub fn a_reboot_breaks_nothing()
+    ensures lost { (p : Position) → IsTrue (is_valid p) → p.state ≡ state.Reboot
+        → (lost_of p).outcome ≡ Inconsistent → p.n ≡ 28 }
+    ensures first { (p q : Position) (order : Order) → IsTrue (is_valid p) → p.state ≡ state.Reboot
+        → first_of p order ≡ opening.Enter q → q.outcome ≡ Inconsistent → p.n ≡ 28 }
+    ensures causes { (p : Position) → IsTrue (is_valid p) → p.state ≡ state.Reboot → BreaksAtLoss p → p.n ≡ 28 }
+{}

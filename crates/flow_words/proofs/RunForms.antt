@@ -1,11 +1,9 @@
 -- A run of scripts, as a course and as a list of events.
 use Rattle.std.proofs.Common.{◌≡◌, ℕ, Bool, true, false, List, [], ◌∷◌, ◌++◌, cond, refl, sym, ap, ◌∙◌, subst, append-nil}
-use Rattle.device_model.specs.declared.calls.Answer.{Answer}
 use Rattle.device_model.specs.declared.calls.Call.TheVariants.{Script}
 use Rattle.device_model.specs.declared.calls.Event.{Event}
-use Rattle.device_model.specs.declared.calls.Event.TheVariants.{Start, End}
 use Rattle.flow_words.specs.declared.mode.Mode.TheVariants.{Checked, Ignored, Once}
-use Rattle.flow_words.specs.Course.{Course, call, done, and_then, Whole}
+use Rattle.flow_words.specs.Course.{done, Whole}
 use Rattle.flow_words.specs.Scripts.{block, step, run}
 use Rattle.flow_words.specs.Blocks.{IsBlock}
 use Rattle.flow_words.specs.RunLists.{IsCheckedRun, none_left, is_good, is_bad, IsIgnoredRun, no_block, a_block, IsRunOnce, no_try, a_try}

@@ -1,5 +1,5 @@
 -- What each state does.
-use Rattle.std.specs.Prelude.{true, false, Option, Some, None}
+use Rattle.std.specs.Prelude.{Option, Some, None}
 use Rattle.device_model.specs.declared.calls.ModState.TheVariants as mod_state
 use Rattle.device_model.specs.declared.calls.Query.{Query}
 use Rattle.device_model.specs.declared.calls.Query.TheVariants.{SupportsRollback, NeedsArtifactReboot}

@@ -13,7 +13,7 @@ use Rattle.script_names.specs.declared.place.Action.TheVariants.{Enter, Leave, E
 use Rattle.script_names.specs.Scripts.{due_of, is_download}
 use Rattle.flow_table.specs.declared.position.Position.{Position}
 use Rattle.flow_table.specs.declared.position.Reboot.{Reboot}
-use Rattle.flow_table.specs.declared.position.Reboot.TheVariants.{No, Yes, Automatic}
+use Rattle.flow_table.specs.declared.position.Reboot.TheVariants.{No, Automatic}
 use Rattle.flow_table.specs.declared.table.Heard.{Heard}
 use Rattle.flow_table.specs.declared.table.Heard.TheVariants.{Failed, Fine, Undoable, Needs}
 use Rattle.flow_table.specs.Replies.{supports_of, needs_of}

@@ -16,7 +16,7 @@ ghost use Rattle.flow_table.specs.declared.table.Opening.TheVariants as opening;
 ghost use Rattle.flow_table.specs.Table.{first_of, fresh_position};
 ghost use Rattle.flow_table.specs.Valid.{is_valid};
 ghost use Rattle.flow_words.specs.Pieces.{End, Halted, Pieces};
-ghost use Rattle.flow_words.specs.Decided.{IsThrough};
+ghost use Rattle.flow_words.specs.Decided.{IsThrough, StandsAt};
 ghost use Rattle.flow_words.specs.Agrees.{Agrees, OneBegins};
 ghost use Rattle.flow_words.specs.StateExamples.{DownloadAsks, InstallFails, Reboots, CallsNothing, DownloadAsksBoth, InstallHearsBoth, FailureEndsCalls};
 ghost use Rattle.flow_words.specs.Counting.{Resumptions};
@@ -123,6 +123,13 @@ pub fn answers_decide_the_events()
 pub fn events_decide_the_end()
     ensures { (words : Position → Course Heard) (stop : Bool) (p q r : Position) (events : List Event) (end other : End)
         → Pieces words stop p events end q → Pieces words stop p events other r → IsThrough end → IsThrough other → (end ≡ other) × (q ≡ r) }
+{}
+
+/// A deployment that ended stands at Idle with its outcome, one that waits at Wait, and one that needs a reboot at Reboot or
+/// at RollbackReboot.
+pub fn ends_tell_the_position()
+    ensures { (words : Position → Course Heard) (stop : Bool) (p q : Position) (events : List Event) (end : End)
+        → Pieces words stop p events end q → StandsAt end q }
 {}
 
 /// An order that enters a position leads to more states than were entered before, of which there are at most 28, or the

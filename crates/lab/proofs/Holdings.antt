@@ -1,11 +1,12 @@
 -- What is held at the end of a path, by induction over its boots.
 use Rattle.std.proofs.Common.{◌≡◌, ⊎_elim, List, [], ◌∷◌, ◌++◌, refl, sym, ap, ◌∙◌, subst, append_assoc, append-nil}
-use Rattle.std.specs.Prelude.{Bool, true, Option, Ok}
+use Rattle.std.specs.Prelude.{Bool, true, Option, None, Ok}
+use Rattle.std.specs.List.{AllByRecursion}
+use Rattle.std.proofs.lemmas.List.Elements.{recursion_from_All}
 use Rattle.device_model.specs.declared.calls.Event.{Event}
 use Rattle.device_model.specs.declared.calls.ModState.TheVariants.{ArtifactCommit}
 use Rattle.io_model.specs.Source.{Content}
 use Rattle.script_names.specs.declared.site.Site.{Site}
-use Rattle.provides_map.specs.Pairs.{Pairs}
 use Rattle.admit.specs.declared.admitted.Admitted.{Admitted}
 use Rattle.flow_table.specs.Laws.{BreaksAtLoss, already_at_loss, no_rollback_at_loss, limit_at_loss}
 use Rattle.flow_table.specs.Valid.{is_valid}
@@ -31,13 +32,18 @@ use Rattle.record_codec.specs.declared.entry.Db.TheVariants.{Empty, Full}
 use Rattle.record_codec.specs.Held.{held, held_of}
 use Rattle.client_words.specs.declared.command.Command.{Command}
 use Rattle.client_words.specs.declared.command.Command.TheVariants.{Install}
-use Rattle.client_top.specs.Answers.{Words}
+use Rattle.client_top.specs.Answers.{Words, end_of}
+use Rattle.client_top.specs.Promises.{IsOver, KeepsOld, TellsHeld, told_by}
+use Rattle.client_top.specs.declared.status.Status.{Status}
+use Rattle.client_top.specs.declared.status.Status.TheVariants.{Done, Inconsistent, RebootNeeded, NotInstalled}
+use Rattle.client_top.specs.declared.status.Good.TheVariants as good
+use Rattle.client_top.proofs.Answered.{IsValidAt, answered}
 use Rattle.client_top.specs.Finds.{begun}
 use Rattle.client_top.specs.Boot.{Boot, nothing as no_deed, stays as waits, runs as starts, begins as begins_untold, breaks_off, IsPlan, is_stop}
 use Rattle.client_top.proofs.Rights.{fresh-valid}
 use Rattle.lab.specs.declared.runs.BootRun.{BootRun}
 use Rattle.lab.specs.Path.{Step, Path, stays, goes, asked_of}
-use Rattle.lab.specs.Holding.{SomeBoot, Deployed, entry_of, InBoot, at_first, later, Commits, Ordered, Mixes, broke_at_first, broke, stopped, at_the_limit, HeldAfter, nothing, new, marked}
+use Rattle.lab.specs.Holding.{SomeBoot, Deployed, entry_of, InBoot, at_first, later, Commits, Ordered, Mixes, broke_at_first, broke, stopped, at_the_limit, HeldAfter, nothing, old, new, marked, ToldAfter, TellNone}
 use Rattle.lab.proofs.Begins.{Starting, goes_on, begins, starting-by}
 use Rattle.lab.proofs.Rows.{path-append}
 
@@ -75,6 +81,16 @@ never-full h k = by (sym h ∙ k)
     by : {e : Entry} → Empty ≡ Full e → ⊥
     by h = cc
 
+-- what an answer says doesn't hang on the position
+told-moved : (status : Status) (e : Entry) (q : Position) → told_by status (record e { position = q }) ≡ told_by status e
+told-moved (Done good.Committed) e q = refl
+told-moved (Done good.Waiting) e q = refl
+told-moved (Done good.RolledBack) e q = refl
+told-moved Inconsistent e q = refl
+told-moved RebootNeeded e q = refl
+told-moved (NotInstalled how) e q = refl
+told-moved status e q = refl
+
 module _ (site : Site) (content : Content) where
   -- ---- with more boots behind
 
@@ -108,11 +124,6 @@ module _ (site : Site) (content : Content) where
   in-more more d (at_first h) = at_first h
   in-more more d (later b) = later (some-more more b)
 
-  held-more : {row : List BootRun} {ps : Pairs} (more : List BootRun) → HeldAfter site content row ps → HeldAfter site content (row ++ more) ps
-  held-more more nothing = nothing
-  held-more more (new d b) = new (longer more d) (in-more more d b)
-  held-more more (marked d b) = marked (longer more d) (in-more more d b)
-
   -- ---- what is known of the database at the end
 
   -- it is of this deployment
@@ -121,7 +132,7 @@ module _ (site : Site) (content : Content) where
     place : Position
     is : c ≡ at (entry_of deployed) place
     rest : Path site content deployed.next deployed.back c
-    old : HeldAfter site content row (held deployed.over)
+    old : HeldAfter site content deployed.front deployed.over (held deployed.over)
     valid : is_valid place ≡ true
     committed : place.outcome ≡ outcome.Committed → InBoot deployed (Commits (entry_of deployed))
     inconsistent : place.outcome ≡ outcome.Inconsistent → InBoot deployed (Mixes site (entry_of deployed))
@@ -130,16 +141,20 @@ module _ (site : Site) (content : Content) where
     empty : c ≡ Empty → Known row c
     stands : Standing row c → Known row c
 
-  by-outcome : {row : List BootRun} {c : Db} (s : Standing row c) (o : Outcome) → s.place.outcome ≡ o → HeldAfter site content row (held_of o (held s.deployed.over) (entry_of s.deployed).new)
-  by-outcome s outcome.Undecided is = s.old
-  by-outcome s outcome.Kept is = s.old
-  by-outcome s outcome.RolledBack is = s.old
-  by-outcome s outcome.Committed is = new s.deployed (s.committed is)
-  by-outcome s outcome.Inconsistent is = marked s.deployed (s.inconsistent is)
+  module _ {row : List BootRun} {c : Db} (s : Standing row c) where
+    rests : Path site content s.deployed.next s.deployed.back (at (entry_of s.deployed) s.place)
+    rests = subst (λ (d : Db). Path site content s.deployed.next s.deployed.back d) s.is s.rest
 
-  held-known : {row : List BootRun} {c : Db} → Known row c → HeldAfter site content row (held c)
-  held-known {row} (empty is) = subst (λ (d : Db). HeldAfter site content row (held d)) (sym is) nothing
-  held-known {row} (stands s) = subst (λ (d : Db). HeldAfter site content row (held d)) (sym s.is) (by-outcome s s.place.outcome refl)
+    by-outcome : (o : Outcome) → s.place.outcome ≡ o → HeldAfter site content row (at (entry_of s.deployed) s.place) (held_of o (held s.deployed.over) (entry_of s.deployed).new)
+    by-outcome outcome.Undecided is = old s.deployed s.place rests (subst KeepsOld (sym is) tt) s.old
+    by-outcome outcome.Kept is = old s.deployed s.place rests (subst KeepsOld (sym is) tt) s.old
+    by-outcome outcome.RolledBack is = old s.deployed s.place rests (subst KeepsOld (sym is) tt) s.old
+    by-outcome outcome.Committed is = new s.deployed s.place rests is (s.committed is)
+    by-outcome outcome.Inconsistent is = marked s.deployed s.place rests is (s.inconsistent is)
+
+  held-known : {row : List BootRun} {c : Db} → Known row c → HeldAfter site content row c (held c)
+  held-known {row} (empty is) = subst (λ (d : Db). HeldAfter site content row d (held d)) (sym is) nothing
+  held-known {row} (stands s) = subst (λ (d : Db). HeldAfter site content row d (held d)) (sym s.is) (by-outcome s s.place.outcome refl)
 
   -- ---- one boot more
 
@@ -152,7 +167,7 @@ module _ (site : Site) (content : Content) where
       place = s.place;
       is = same ∙ s.is;
       rest = path-append s.rest (goes step stays);
-      old = held-more (run ∷ []) s.old;
+      old = s.old;
       valid = s.valid;
       committed = λ h. in-more (run ∷ []) s.deployed (s.committed h);
       inconsistent = λ h. in-more (run ∷ []) s.deployed (s.inconsistent h);
@@ -193,7 +208,7 @@ module _ (site : Site) (content : Content) where
         place = last;
         is = at_last;
         rest = path-append s.rest (goes step stays);
-        old = held-more (run ∷ []) s.old;
+        old = s.old;
         valid = pieces-valid leads valid;
         committed = committed-more commits;
         inconsistent = mixed-more breaks;
@@ -234,7 +249,7 @@ module _ (site : Site) (content : Content) where
         place = last;
         is = is;
         rest = stays;
-        old = held-more (run ∷ []) (held-known known);
+        old = held-known known;
         valid = pieces-valid leads fresh-valid;
         committed = first-commits;
         inconsistent = first-mixes;
@@ -272,5 +287,38 @@ module _ (site : Site) (content : Content) where
       subst (λ (l : List BootRun). Known l d) (append_assoc front (run ∷ []) row)
       (path-known (front ++ run ∷ []) (path-append came (goes step stays)) (by-boot run step.events _ step.journal came step known step.boot) path)
 
-  pub held-after : (d : Db) (row : List BootRun) → Path site content Empty row d → HeldAfter site content row (held d)
+  pub held-after : (d : Db) (row : List BootRun) → Path site content Empty row d → HeldAfter site content row d (held d)
   held-after d row path = held-known (path-known [] stays (empty refl) path)
+
+  -- ---- the last answer of a deployment
+
+  known-valid : {row : List BootRun} {c : Db} → Known row c → IsValidAt c
+  known-valid (empty is) = subst IsValidAt (sym is) tt
+  known-valid (stands s) = subst IsValidAt (sym s.is) s.valid
+
+  told-of : {row : List BootRun} {c d : Db} (status : Status) → Known row d → TellsHeld c status d → ToldAfter site content row status d
+  told-of status (empty is) told = absurd (never-full is told.stands)
+  told-of status (stands s) told = record {
+    deployed = s.deployed;
+    position = s.place;
+    stands = s.is;
+    holds = sym (told-moved status (entry_of s.deployed) s.place) ∙ ap (told_by status) (full-is told.stands s.is) ∙ told-moved status told.deployment told.position ∙ told.holds;
+  }
+
+  by-look : {c d : Db} {events : List Event} {end : Option End} (command : Command) → end ≡ None → Boot (asked_of site content command) c events end d → d ≡ c
+  by-look command is no_deed = refl
+  by-look command is (waits h) = absurd cc
+  by-look command is (starts e p found leads) = absurd cc
+  by-look command is (begins_untold plan i found fits leads) = absurd cc
+  by-look command is breaks_off = absurd cc
+
+  looks-stay : {c d : Db} {row : List BootRun} → Path site content c row d → AllByRecursion (λ (r : BootRun). end_of r.status ≡ None) row → d ≡ c
+  looks-stay stays none = refl
+  looks-stay (goes {run} step path) none = looks-stay path none.1 ∙ by-look run.command none.0 step.boot
+
+  pub told-after : (c m d : Db) (row looks : List BootRun) (run : BootRun) → Path site content Empty row c → Step site content c run m → IsOver (end_of run.status) → Path site content m looks d → TellNone looks → ToldAfter site content (row ++ run ∷ []) run.status d
+  told-after c m d row looks run path step over behind none =
+      let known : Known row c = path-known [] stays (empty refl) path in
+      let then : Known (row ++ run ∷ []) m = by-boot run step.events _ step.journal path step known step.boot in
+      let told : TellsHeld c run.status m = answered (asked_of site content run.command) c m step.events run.status (known-valid known) step.whose step.boot over in
+      subst (ToldAfter site content (row ++ run ∷ []) run.status) (sym (looks-stay behind (recursion_from_All (λ (r : BootRun). end_of r.status ≡ None) looks none))) (told-of run.status then told)

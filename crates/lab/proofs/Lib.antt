@@ -6,6 +6,7 @@ pub mod Drawing
 pub mod Payloads
 pub mod Cutting
 pub mod Resuming
+pub mod Between
 pub mod Begins
 pub mod Holdings
 pub mod Zeros

@@ -15,7 +15,7 @@ use Rattle.flow_table.specs.declared.position.Outcome.TheVariants.{Undecided}
 use Rattle.flow_words.specs.Pieces.{End, Ended}
 use Rattle.record_codec.specs.declared.entry.Db.{Db}
 use Rattle.record_codec.specs.declared.entry.Db.TheVariants.{Empty}
-use Rattle.slot_store.specs.Slots.{Sound, IsAt, stood}
+use Rattle.slot_store.specs.Slots.{May, Sound, IsAt, stood}
 use Rattle.slot_store.proofs.Disks.{at-area, settled-area}
 use Rattle.slot_store.proofs.Zeros.{zeros-stand}
 use Rattle.device_mem.specs.declared.script.Script.{Script}
@@ -37,6 +37,8 @@ use Rattle.lab.specs.Simulation.{GoesOn, EndsAs, Played, Until, ends, goes_on, I
 use Rattle.lab.proofs.Rows.{campaigned-append, campaigned-none}
 use Rattle.lab.proofs.Zeros.{zeros-hold}
 use Rattle.lab.proofs.Turning.{Busy, busy, ended-at}
+use Rattle.lab.proofs.Shortness.{short-rounds}
+use Rattle.std.proofs.lemmas.List.{length-map, length-replicate}
 
 -- ---- the commands of so many boots
 
@@ -234,6 +236,34 @@ module _ (round : Round) (k : ℕ) (command : Command) (mid new : MemState) (s s
         outcome_is = (let e = ended-at the_site (Told (tree_of round.lengths)) run o last.1 is in e.1);
         decided = decided run.command run.status o last.1.whose is;
       }
+
+-- ---- how many they are
+
+may-some : (disk : Option Disk) → IsTold disk → IsWhole 266240 disk → Sound disk → (db : Db) × May disk db
+may-some None told whole sound = absurd told
+may-some (Some d) told whole sound =
+    let held = refilled_self (IsSynced d.unsynced) d.area whole.bytes in
+    let k = sound d.area held in
+    (k.0, record { area = d.area; held = held; stands = k.1 })
+
+boots-long : (k : ℕ) → length (boots_of k) ≡ k
+boots-long zero = refl
+boots-long (suc n) = ap suc (length-replicate n Resume)
+
+module _ {round : Round} {command : Command} {device : MemState} {source : Shelf} (none : round.script.losses ≡ []) (told : IsTold device.device.disk) (area : IsWhole 266240 device.device.disk) where
+  few-by : (k : ℕ) → Sofar round k command device source → k ≤ 28
+  few-by zero s = omega arith
+  few-by (suc n) s =
+      let at = may-some device.device.disk told area (s.campaign.sound (zeros-sound round.script)) in
+      let led = s.campaign.reached at.0 at.1 in
+      let empty : led.from ≡ Empty = zeros-hold (fresh_disk (replicate 266240 0)) refl refl led.from led.may in
+      let path : Path the_site (Told (tree_of round.lengths)) Empty s.runs at.0 = subst (λ (c : Db). Path the_site (Told (tree_of round.lengths)) c s.runs at.0) empty led.path in
+      let short : length s.runs ≤ 28 = short-rounds round.script none the_site (tree_of round.lengths) n at.0 s.runs device.taken device.started path s.campaign.commands s.each_on s.campaign.fits in
+      let many : length s.runs ≡ suc n = sym (length-map s.runs (λ (r : BootRun). r.command)) ∙ ap length s.campaign.commands ∙ boots-long (suc n) in
+      omega (arith, short, many)
+
+  pub sofar-few : (k : ℕ) → Sofar round k command device source → 29 ≤ k → ⊥
+  sofar-few k s many = let few = few-by k s in omega (arith, few, many)
 
 -- ---- as the code makes it
 

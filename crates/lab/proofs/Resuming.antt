@@ -163,7 +163,7 @@ module _ (site : Site) (content : Content) where
   idle-path no_boot all idle = idle
   idle-path (goes s path) all idle = idle-path path all.1 (resume-idle s all.0 idle)
 
-  is-idle : (s : State) → (s ≡ state.Idle) ⊎ (s ≢ state.Idle)
+  pub is-idle : (s : State) → (s ≡ state.Idle) ⊎ (s ≢ state.Idle)
   is-idle state.Idle = inl refl
   is-idle state.Download = inr (λ h. cc)
   is-idle state.Install = inr (λ h. cc)

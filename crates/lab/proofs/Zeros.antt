@@ -28,7 +28,7 @@ zeros-hold disk zeros settled c may =
     same-db (sym may.stands ∙ ap stood (settled-area disk settled may.area may.held ∙ zeros) ∙ zeros-stand)
 
 pub held-from-zeros : (site : Site) (boots : List Command) (old new : MemState) (source source' : Shelf) (runs : List BootRun) (disk : Disk) → Campaigned site boots old new source source' runs →
-    old.device.disk ≡ Some disk → disk.area ≡ replicate 266240 0 → disk.unsynced ≡ unmarked disk.unsynced → (d : Db) → May new.device.disk d → HeldAfter site (Told source.tree) runs (held d)
+    old.device.disk ≡ Some disk → disk.area ≡ replicate 266240 0 → disk.unsynced ≡ unmarked disk.unsynced → (d : Db) → May new.device.disk d → HeldAfter site (Told source.tree) runs d (held d)
 held-from-zeros site boots old new source source' runs disk campaign is zeros settled d may =
     let led = campaign.reached d may in
     let empty : led.from ≡ Empty = zeros-hold disk zeros settled led.from (subst (λ (o : Option Disk). May o led.from) is led.may) in

@@ -1,12 +1,12 @@
 -- What is held after boots in a row from the empty database.
-use Rattle.std.specs.Prelude.{◌≡◌, false, List, [], ◌∷◌, ◌++◌, Ok}
+use Rattle.std.specs.Prelude.{◌≡◌, false, List, [], ◌∷◌, ◌++◌, All, Some, None, Ok}
 use Rattle.io_model.specs.Source.{Content}
 use Rattle.script_names.specs.declared.site.Site.{Site}
 use Rattle.provides_map.specs.Pairs.{Pairs}
 use Rattle.provides_map.specs.After.{broken}
 use Rattle.admit.specs.declared.admitted.Admitted.{Admitted}
-use Rattle.flow_table.specs.Laws.{IsTrial}
-use Rattle.flow_table.specs.declared.position.Outcome.TheVariants.{Undecided}
+use Rattle.flow_table.specs.Laws.{IsUndoneAtLoss}
+use Rattle.flow_table.specs.declared.position.Outcome.TheVariants.{Undecided, Committed, Inconsistent}
 use Rattle.flow_table.specs.declared.position.Position.{Position}
 use Rattle.flow_table.specs.declared.table.Order.{Order}
 use Rattle.flow_table.specs.declared.table.Opening.TheVariants as opening
@@ -18,11 +18,14 @@ use Rattle.flow_drive.specs.Drive.{at}
 use Rattle.record_codec.specs.declared.entry.Entry.{Entry}
 use Rattle.record_codec.specs.declared.entry.Db.{Db}
 use Rattle.record_codec.specs.declared.entry.Db.TheVariants.{Empty}
-use Rattle.record_codec.specs.Held.{position_of}
+use Rattle.record_codec.specs.Held.{held, position_of}
 use Rattle.client_words.specs.declared.command.Command.TheVariants.{Install}
 use Rattle.client_top.specs.Finds.{begun}
 use Rattle.client_top.specs.Steps.{command_of}
 use Rattle.client_top.specs.Boot.{IsPlan, is_stop}
+use Rattle.client_top.specs.declared.status.Status.{Status}
+use Rattle.client_top.specs.Answers.{end_of}
+use Rattle.client_top.specs.Promises.{KeepsOld, told_by}
 use Rattle.lab.specs.declared.runs.BootRun.{BootRun}
 use Rattle.lab.specs.Path.{Step, Path}
 
@@ -81,13 +84,27 @@ pub data Mixes (site : Site) (e : Entry) (before : Db) (run : BootRun) : Type 0 
   -- it went on, and broke
   broke : (o : Ordered before run) → BrokeFrom site e o.entered run → Mixes site e before run
   -- it went on from a state that can't be taken back
-  stopped : Ordered before run → IsTrial (position_of before).state → (position_of before).undoable ≡ false → Mixes site e before run
+  stopped : Ordered before run → IsUndoneAtLoss (position_of before).state → (position_of before).undoable ≡ false → Mixes site e before run
   -- it went on where no further state may be entered, and nothing was decided
   at_the_limit : Ordered before run → (position_of before).n ≡ 28 → (position_of before).outcome ≡ Undecided → Mixes site e before run
 
--- What is held after these boots from the empty database: nothing; or what some deployment provides that committed; or that,
--- marked, where the old and the new are mixed.
-pub data HeldAfter (site : Site) (content : Content) (runs : List BootRun) : Pairs → Type 0 where
-  nothing : HeldAfter site content runs []
-  new : (d : Deployed site content runs) → InBoot d (Commits (entry_of d)) → HeldAfter site content runs (entry_of d).new
-  marked : (d : Deployed site content runs) → InBoot d (Mixes site (entry_of d)) → HeldAfter site content runs (broken (entry_of d).new)
+-- What is held after these boots from the empty database, where this database stands behind them: nothing, where no deployment
+-- began. Else some deployment stands: what was held where it began is held, as long as it neither committed nor became
+-- inconsistent; what it provides, where it committed; or that, marked, where the old and the new are mixed.
+pub data HeldAfter (site : Site) (content : Content) : List BootRun → Db → Pairs → Type 0 where
+  nothing : {runs : List BootRun} → HeldAfter site content runs Empty []
+  old : {runs : List BootRun} {ps : Pairs} (d : Deployed site content runs) (q : Position) → Path site content d.next d.back (at (entry_of d) q) → KeepsOld q.outcome → HeldAfter site content d.front d.over ps → HeldAfter site content runs (at (entry_of d) q) ps
+  new : {runs : List BootRun} (d : Deployed site content runs) (q : Position) → Path site content d.next d.back (at (entry_of d) q) → q.outcome ≡ Committed → InBoot d (Commits (entry_of d)) → HeldAfter site content runs (at (entry_of d) q) (entry_of d).new
+  marked : {runs : List BootRun} (d : Deployed site content runs) (q : Position) → Path site content d.next d.back (at (entry_of d) q) → q.outcome ≡ Inconsistent → InBoot d (Mixes site (entry_of d)) → HeldAfter site content runs (at (entry_of d) q) (broken (entry_of d).new)
+
+-- A deployment that one of these boots began stands behind them, and of what it provides and of what was held where it began is
+-- held what this answer says.
+pub record ToldAfter (site : Site) (content : Content) (runs : List BootRun) (status : Status) (d : Db) : Type 0 where
+  pub deployed : Deployed site content runs
+  pub position : Position
+  pub stands : d ≡ at (entry_of deployed) position
+  pub holds : told_by status (entry_of deployed) ≡ Some (held d)
+
+-- the answers tell no deployment
+abbrev pub TellNone : List BootRun → Type 0
+TellNone runs = All (λ (r : BootRun). end_of r.status ≡ None) runs

@@ -20,8 +20,8 @@ use script_names::{ScriptList, Site};
 use std::alloc::Global;
 use upd_text::{CallList, ListOf, Name, NoMemory};
 
-/// How many boots a round has at the most. At most three of them lose their power, and a deployment enters at most 28 states.
-const MOST_BOOTS: u32 = 64;
+/// More boots than any round has: each boot that goes on counts a state of its deployment, and there are at most 28.
+const MOST_BOOTS: u32 = 29;
 
 /// What comes behind a boot of a round.
 enum Turn {
@@ -29,7 +29,7 @@ enum Turn {
     GoesOn,
     /// Nothing: the deployment ended.
     Ends(Outcome),
-    /// Nothing: memory is wanting.
+    /// Nothing: the round can't be played to its end, as where memory is wanting.
     Fails,
 }
 
@@ -42,7 +42,17 @@ fn turn_of(status: &Status) -> Turn
         Status::Done(Good::RolledBack) => Turn::Ends(Outcome::RolledBack),
         Status::Inconsistent => Turn::Ends(Outcome::Inconsistent),
         Status::NotInstalled(outcome) => Turn::Ends(*outcome),
-        _ => Turn::Fails,
+        Status::Done(Good::Shown | Good::Admitted | Good::Simulated)
+        | Status::Refused(_)
+        | Status::NoUpdate
+        | Status::DiskFault
+        | Status::SourceFault
+        | Status::NoMemory
+        | Status::SinkFault
+        | Status::Usage(_)
+        | Status::BadStore(_)
+        | Status::TooLarge(_)
+        | Status::NotNow(_) => Turn::Fails,
     }
 }
 
@@ -94,7 +104,7 @@ fn play(alloc: Global, round: Round) -> Result<Outcome, NoMemory>
             Turn::Fails => return Err(NoMemory),
         }
     }
-    Err(NoMemory)
+    unreachable!()
 }
 
 /// Draws so many rounds from a seed, plays each of them, and counts how they ended. Condition: they are at most 1,000.

@@ -6,7 +6,7 @@ use Rattle.client_words.specs.declared.command.Command.TheVariants.{Install}
 use Rattle.flow_table.specs.declared.position.Outcome.{Outcome}
 use Rattle.lab.specs.Simulation.{Played, new_source}
 use Rattle.lab.specs.Trees.{tree_of}
-use Rattle.lab.proofs.Playing.{Sofar, sofar-none, sofar-room, sofar-obeys, sofar-more, sofar-next, step-boot, played}
+use Rattle.lab.proofs.Playing.{Sofar, sofar-none, sofar-room, sofar-obeys, sofar-more, sofar-next, sofar-few, step-boot, played}
 use Rattle.lab.proofs.Rows.{err-is-no-ok}
 use Rattle.lab.proofs.play.play.Goals as goal
 
@@ -35,3 +35,6 @@ loop-i-preserved c =
     sofar-next (sofar-more c.args.round c.loop-i._i c.loop-i.command (mem_of c.loop-i.device) (mem_of c.boot.new.device) c.loop-i.source c.boot.new.source c.in_ok-run.run' c.loop-i.invariant
     (step-boot c.in_ok-site.site c.loop-i.command (mem_of c.loop-i.device) (mem_of c.boot.new.device) c.loop-i.source c.boot.new.source c.in_ok-run.run' c.in_ok-run.ensures.campaign.0 c.in_ok-site.ensures c.in_ok-run.ensures.campaign.1 c.in_ok-run.ensures.campaign.2)
     c.requires.unplanned c.in-GoesOn.ensures)
+
+pub unreachable-requires : goal.unreachable-requires
+unreachable-requires c = sofar-few c.requires.unplanned tt (is_whole c.loop-i.device) c.loop-i._i c.loop-i.invariant c.loop-i-test.false
