@@ -75,6 +75,56 @@ stays() {
     [ ! -e "$1" ] || told "unpack $1 leaves no folder" "$(ls "$1")" ''
 }
 
+# Unpacks the artifact $1 with the keys in $2, which comes to the status $4. $3 says of what kind that is.
+with_key() {
+    rm -rf keyed
+    text=$(PATH="$here/../crates/signed_cli/out:$PATH" sh "$unpack" --key "$2" "$1.mender" keyed 2>&1)
+    told "unpack $1 --key $2: $3" "$?${text:+ }" "$4$([ "$4" = 0 ] || echo ' ')"
+    rm -rf keyed
+}
+
+# A random number below $1.
+below() { echo $(($(od -An -N 4 -tu4 /dev/urandom) % $1)); }
+
+# Changes a bit of the file $1.
+change_bit() {
+    at=$(below "$(wc -c < "$1")")
+    byte=$(od -An -tu1 -j "$at" -N 1 "$1")
+    printf '%b' "\\0$(printf %o $((byte ^ (1 << $(below 8)))))" | dd of="$1" bs=1 seek="$at" conv=notrunc 2> log
+}
+
+# Packs the artifact $1 anew, signed with the key in $2, with a bit changed of $3, which is `key`, one of the artifact's files,
+# `payload` or `nothing`, and unpacks it with the key.
+changed() {
+    rm -rf parts payload keyed
+    mkdir parts payload
+    tar -xf "$1.mender" -C parts
+    tar -xzf parts/data/0000.tar.gz -C payload
+    cp "$2" parts/key
+    case $3 in
+        nothing) ;;
+        payload) change_bit payload/app.bin ;;
+        *) change_bit "parts/$3" ;;
+    esac
+    tar -czf parts/data/0000.tar.gz -C payload app.bin
+    tar -tf "$1.mender" | tar -cf changed.mender -C parts -T -
+    PATH="$here/../crates/signed_cli/out:$PATH" sh "$unpack" --key parts/key changed.mender keyed > log 2>&1
+}
+
+# The artifact $1, signed with the key in $2, is refused after a bit of it or of the key was changed.
+changed_bits() {
+    changed "$1" "$2" nothing
+    told "unpack $1, packed anew" $? 0
+    for part in key manifest manifest.sig header.tar.gz payload; do
+        taken=0
+        for _ in 1 2 3 4 5 6 7 8 9 10; do
+            ! changed "$1" "$2" $part || taken=$((taken + 1))
+        done
+        told "unpack $1 with a changed bit of $part, ten times: taken" $taken 0
+    done
+    rm -rf parts payload keyed changed.mender
+}
+
 mkdir -p mender-data/modules/v3 mender-data/root
 echo device_type=beaglebone > mender-data/device_type
 cat > mender-data/modules/v3/single-file << 'END'
@@ -142,8 +192,21 @@ goes image app.bin
 if command -v openssl > /dev/null && openssl genrsa -traditional -out key.pem 2048 > log 2>&1; then
     make signed -f app.bin -k key.pem
     goes signed app.bin
+    for bits in 2048 3072 4096; do
+        openssl genrsa -traditional -out "$bits.pem" "$bits" > log 2>&1
+        openssl rsa -in "$bits.pem" -pubout -out "$bits.pub" 2> log
+        make "signed-$bits" -f app.bin -k "$bits.pem"
+        with_key "signed-$bits" "$bits.pub" 'key' 0
+        with_key signed "$bits.pub" 'of another key' 1
+        with_key one-file "$bits.pub" 'unsigned' 1
+    done
+    cat 2048.pub 3072.pub 4096.pub > all.pub
+    for bits in 2048 3072 4096; do
+        with_key "signed-$bits" all.pub 'one of three keys' 0
+        changed_bits "signed-$bits" "$bits.pub"
+    done
 else
-    echo 'skipped: a signed artifact, for which openssl is wanting'
+    echo 'skipped: signed artifacts, for which openssl is wanting'
 fi
 mender-artifact write rootfs-image -o format-2.mender -n format-2 -t beaglebone -f app.bin -v 2 --no-progress > log 2>&1
 stays format-2 'it is of format 2, and not 3'

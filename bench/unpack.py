@@ -1,10 +1,12 @@
 #!/usr/bin/env python3
 """Shows what tools/unpack.sh takes and refuses, by artifacts that are made here, good ones and ones that would write outside
-of their folder, and that nothing is left beside the tree. Run it by hand; the gate doesn't call it.
+of their folder, and that nothing is left beside the tree. Where openssl is installed it shows what --key takes and refuses, by the
+built signed_cli where there is one, and by openssl alone. Run it by hand; the gate doesn't call it.
 
 usage: bench/unpack.py [SHELL [PATH]]
 SHELL runs the script, else sh; with `busybox sh` and a PATH of busybox's programs it shows them in the place of GNU's.
 """
+import base64
 import gzip
 import hashlib
 import io
@@ -18,6 +20,7 @@ import tempfile
 
 HERE = os.path.dirname(os.path.abspath(__file__))
 SCRIPT = os.path.join(HERE, "..", "tools", "unpack.sh")
+PROGRAMS = os.path.join(HERE, "..", "crates", "signed_cli", "out")
 VERSION = b'{"format":"mender","version":3}'
 INFO = (b'{"payloads":[{"type":"single-file"}],"artifact_provides":{"artifact_name":"release-2"},'
         b'"artifact_depends":{"device_type":["beaglebone"]}}')
@@ -132,6 +135,83 @@ def cases(outside, path=None):
     yield "a payload in two packings", artifact(more=[("data/0000.tar", tar([]))]), 1, "twice"
 
 
+def openssl(*words, **more):
+    return subprocess.run(["openssl", *words], capture_output=True, check=True, **more).stdout
+
+
+def make_keys(folder):
+    """Files of keys by their names, each with its private part in a file `NAME.private`."""
+    for name, words in [("key", ("genrsa", "2048")), ("large", ("genrsa", "4096")), ("other", ("genrsa", "2048")),
+                        ("short", ("genrsa", "1024")), ("three", ("genrsa", "-3", "2048")),
+                        ("curve", ("ecparam", "-name", "prime256v1", "-genkey", "-noout"))]:
+        with open(os.path.join(folder, name + ".private"), "wb") as file:
+            file.write(openssl(*words))
+        with open(os.path.join(folder, name), "wb") as file:
+            file.write(openssl("pkey", "-in", file.name + ".private", "-pubout"))
+    for name, parts in [("several", ["other", "large", "key"]), ("second-wrong", ["key", "curve"]), ("others", ["other", "large"])]:
+        with open(os.path.join(folder, name), "wb") as file:
+            for part in parts:
+                with open(os.path.join(folder, part), "rb") as one:
+                    file.write(one.read())
+    with open(os.path.join(folder, "text"), "wb") as file:
+        file.write(b"no key at all\n")
+    os.mkfifo(os.path.join(folder, "fifo"))
+
+
+def members_of(content):
+    with tarfile.open(fileobj=io.BytesIO(content)) as file:
+        return [(one.name, file.extractfile(one).read()) for one in file]
+
+
+def signature_of(folder, key, content):
+    """The signature of an artifact's manifest by a key."""
+    return openssl("dgst", "-sha256", "-sign", os.path.join(folder, key + ".private"), input=dict(members_of(content))["manifest"])
+
+
+def signed(content, signature):
+    """An artifact with this signature behind its files."""
+    return tar(members_of(content) + [("manifest.sig", base64.b64encode(signature))])
+
+
+def keyed_cases(folder):
+    """A name, the file of keys, the bytes, and the exit status that is wanted with a part of the line."""
+    plain, old = artifact(), artifact(payloads=[[("app.bin", b"old")]])
+    right = signature_of(folder, "key", plain)
+    good = signed(plain, right)
+    yield "signed", "key", good, 0, ""
+    yield "signed with a large key", "large", signed(plain, signature_of(folder, "large", plain)), 0, ""
+    yield "signed with the last of several keys", "several", good, 0, ""
+    yield "signed with none of several keys", "others", good, 1, "isn't one of this manifest"
+    yield "signed with another key", "other", good, 1, "isn't one of this manifest"
+    yield "unsigned", "key", plain, 1, "it isn't signed"
+    for key in ["absent", "fifo"]:
+        yield f"the key {key}", key, good, 2, "no file that can be read"
+    for key, told in [("text", "no PEM text"), ("curve", "no RSA key"), ("short", "fewer than 2048 bits"), ("three", "another exponent"),
+                      ("second-wrong", "no RSA key")]:
+        yield f"the key {key}", key, good, 2, told
+    yield "octets behind the signature", "key", signed(plain, right + b"x"), 1, "isn't one of this manifest"
+    yield "a signature that is cut", "key", signed(plain, right[:-1]), 1, "isn't one of this manifest"
+    yield "a signature that isn't base64", "key", tar(members_of(plain) + [("manifest.sig", b"-" * 344)]), 1, "isn't base64"
+    yield "a signature without end", "key", tar(members_of(plain) + [("manifest.sig", b"A" * 16_385)]), 1, "more than 16384 bytes"
+    yield "the signature of another artifact", "key", signed(old, right), 1, "isn't one of this manifest"
+    changed = bytearray(right)
+    changed[100] ^= 1
+    yield "a changed bit of the signature", "key", signed(plain, bytes(changed)), 1, "isn't one of this manifest"
+    parts = dict(members_of(good))
+    lines = bytearray(parts["manifest"])
+    lines[0] ^= 1
+    yield "a changed bit of the manifest", "key", tar(list({**parts, "manifest": bytes(lines)}.items())), 1, "isn't one of this manifest"
+    head = gzip.compress(tar(HEADER[:1]))
+    yield "another header", "key", tar(list({**parts, "header.tar.gz": head}.items())), 1, "sum of header.tar.gz"
+    data = gzip.compress(tar([("app.bin", b"old")]))
+    yield "another payload", "key", tar(list({**parts, "data/0000.tar.gz": data}.items())), 1, "sum of data/0000/app.bin"
+    both = list(parts.items())
+    unsigned = ("manifest", dict(members_of(old))["manifest"])
+    mixed = [(name, data if name == "data/0000.tar.gz" else content) for name, content in both]
+    yield "the signed manifest, then another", "key", tar(mixed + [unsigned]), 1, "manifest twice"
+    yield "another manifest, then the signed one", "key", tar([unsigned] + mixed), 1, "manifest twice"
+
+
 def files_of(folder):
     found = {}
     for above, _, names in os.walk(folder):
@@ -156,38 +236,64 @@ def whole(tree):
     return "" if listed == found and len(lines) == len(found) else "its manifest isn't its files'"
 
 
+def try_artifact(top, run, words, content, wanted, told):
+    """What is wrong with how the script takes an artifact. Beside the new folder where it works, `top` has one that must stay."""
+    outside, place, path = os.path.join(top, "outside"), os.path.join(top, "here", "below"), os.path.join(top, "a.mender")
+    os.makedirs(place)
+    with open(path, "wb") as file:
+        file.write(content)
+    end = run([SCRIPT, *words, path, "tree"], cwd=place, capture_output=True, text=True, stdin=subprocess.DEVNULL)
+    wrong = []
+    if end.returncode != wanted or end.stdout:
+        wrong.append(f"exit {end.returncode}, not {wanted}")
+    if end.stderr.count("\n") != (1 if wanted else 0) or told not in end.stderr:
+        wrong.append(f"it says {end.stderr!r}, not {told!r}")
+    if os.listdir(place) != ([] if wanted else ["tree"]):
+        wrong.append(f"it leaves {os.listdir(place)}")
+    elif not wanted and whole(os.path.join(place, "tree")):
+        wrong.append(whole(os.path.join(place, "tree")))
+    kept = os.stat(os.path.join(outside, "kept"))
+    if files_of(outside) != {"kept": b"kept"} or sorted(os.listdir(top)) != ["a.mender", "here", "outside"] or \
+            os.listdir(os.path.join(top, "here")) != ["below"] or kept.st_mode & 0o7777 != 0o600 or kept.st_nlink != 1:
+        wrong.append("it wrote outside")
+    shutil.rmtree(place)
+    return wrong
+
+
+def rows(outside, keys, path):
+    """Each row: its name, the folder of programs that comes before those of PATH, the script's first words, the bytes, the status
+    and a part of the line."""
+    for name, *row in cases(outside, path):
+        yield name, "", [], *row
+    if not shutil.which("openssl"):
+        print("skipped: --key, for which openssl is wanting")
+        return
+    make_keys(keys)
+    programs = [PROGRAMS] if os.access(os.path.join(PROGRAMS, "signed_cli"), os.X_OK) else []
+    if shutil.which("openssl", path=path):
+        programs.append("")
+    for name, key, *row in keyed_cases(keys):
+        for folder in programs:
+            yield f"{name}, by {'signed_cli' if folder else 'openssl'}", folder, ["--key", os.path.join(keys, key)], *row
+
+
 def main():
     shell = sys.argv[1].split() if len(sys.argv) > 1 else ["sh"]
-    env = dict(os.environ, PATH=sys.argv[2]) if len(sys.argv) > 2 else None
+    path = sys.argv[2] if len(sys.argv) > 2 else None
     failed = count = 0
-    with tempfile.TemporaryDirectory() as top:
+    with tempfile.TemporaryDirectory() as top, tempfile.TemporaryDirectory() as keys:
         top = os.path.realpath(top)
-        outside, place = os.path.join(top, "outside"), os.path.join(top, "here", "below")
+        outside = os.path.join(top, "outside")
         os.makedirs(outside)
         with open(os.path.join(outside, "kept"), "wb") as file:
             file.write(b"kept")
         os.chmod(os.path.join(outside, "kept"), 0o600)
-        for name, content, wanted, told in cases(outside, sys.argv[2] if len(sys.argv) > 2 else None):
-            os.makedirs(place)
-            path = os.path.join(top, "a.mender")
-            with open(path, "wb") as file:
-                file.write(content)
-            run = subprocess.run(shell + [SCRIPT, path, "tree"], cwd=place, env=env, capture_output=True, text=True,
-                                 stdin=subprocess.DEVNULL)
-            wrong = []
-            if run.returncode != wanted or run.stdout:
-                wrong.append(f"exit {run.returncode}, not {wanted}")
-            if run.stderr.count("\n") != (1 if wanted else 0) or told not in run.stderr:
-                wrong.append(f"it says {run.stderr!r}, not {told!r}")
-            if os.listdir(place) != ([] if wanted else ["tree"]):
-                wrong.append(f"it leaves {os.listdir(place)}")
-            elif not wanted and whole(os.path.join(place, "tree")):
-                wrong.append(whole(os.path.join(place, "tree")))
-            kept = os.stat(os.path.join(outside, "kept"))
-            if files_of(outside) != {"kept": b"kept"} or sorted(os.listdir(top)) != ["a.mender", "here", "outside"] or \
-                    os.listdir(os.path.join(top, "here")) != ["below"] or kept.st_mode & 0o7777 != 0o600 or kept.st_nlink != 1:
-                wrong.append("it wrote outside")
-            shutil.rmtree(place)
+        for name, folder, words, content, wanted, told in rows(outside, keys, path):
+            searched = ":".join(filter(None, [folder, path or os.environ["PATH"]]))
+
+            def run(words, **more):
+                return subprocess.run(shell + words, env=dict(os.environ, PATH=searched), **more)
+            wrong = try_artifact(top, run, words, content, wanted, told)
             count += 1
             if wrong:
                 failed += 1

@@ -62,6 +62,7 @@ add file_module_cli Yes 0 SupportsRollback "$work/empty"
 add ab_image_cli '' 15 SupportsRollback
 add scenario_cli '' 2
 add tree_cli '' 15
+add signed_cli '' 2
 {
     commit=$(git rev-parse HEAD 2> "$log") && echo "commit $commit$(git diff --quiet HEAD 2> "$log" || echo ', changed')"
     rt version

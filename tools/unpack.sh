@@ -2,14 +2,18 @@
 # Unpacks a Mender artifact of format 3 into a tree that the client installs (docs/FORMATS.md, "A tree, and why it is refused").
 # It needs tar and sha256sum, and gzip, xz or zstd where the artifact is packed so; the tar and the sha256sum of GNU or of
 # busybox will do.
-# usage: unpack.sh ARTIFACT FOLDER
+# usage: unpack.sh [--key FILE] ARTIFACT FOLDER
+# With --key only an artifact is taken whose manifest was signed with the private part of one of the keys in FILE: PEM texts of RSA
+# keys of 2,048 to 4,096 bits, one behind the other. The program signed_cli says so, from beside this script or from PATH, or where
+# it isn't there openssl, one key after the other. The sums of the signed manifest carry the signature on to each file.
 # FOLDER must not be there. It appears at once and whole, after the sums of the artifact's own manifest were checked; until then
 # all is in a folder FOLDER.XXXXXX beside it, which is taken away however this ends, but where it is killed outright or power
 # is lost. FOLDER has the files of the header and of the payloads, and a manifest of these. The artifact's signature isn't
-# looked at, and isn't taken along, since it is one of the packed header.
+# taken along, since it is one of the packed header, and without --key it isn't looked at.
 # exit: 0 the tree stands in FOLDER
-#       1 the artifact can't be taken: a line on standard error says why, and it will be refused again
-#       2 the words are wrong, FOLDER is there, a program is missing, or something can't be read or written: a line says what
+#       1 the artifact can't be taken, or isn't signed: a line on standard error says why, and it will be refused again
+#       2 the words or the key are wrong, FOLDER is there, a program is missing, or something can't be read or written: a line
+#         says what
 set -u
 umask 022
 export LC_ALL=C                                     # lengths are bytes
@@ -18,6 +22,7 @@ export TAR_OPTIONS=--quoting-style=literal          # GNU tar lists names as the
 most_files=256      # of a tree, its manifest too
 most_path=128       # bytes of a path in the tree
 most_meta=65536     # bytes of the manifest, of version and of a file of the header
+most_sign=16384     # bytes of the signature
 
 fail() {
     printf 'unpack.sh: %s\n' "$1" >&2
@@ -29,8 +34,14 @@ refuse() {
     exit 1
 }
 
-# The bytes of the artifact's file $1.
-member() { tar -xOf - "$1" < "$artifact" 2> /dev/null; }
+# The bytes of the artifact's file $1. The header is taken out once, so that what is unpacked is what was summed.
+member() {
+    if [ "$1" = "$header" ] && [ -f "$work/header" ]; then
+        cat "$work/header"
+    else
+        tar -xOf - "$1" < "$artifact" 2> /dev/null
+    fi
+}
 
 # Standard input, taken out of the packing that the file name $1 tells.
 unpacked() {
@@ -82,7 +93,66 @@ unpack() {
 # The program $1 has to be there for the artifact's file $2.
 needs() { command -v "$1" > /dev/null || fail "$1 is missing, which $2 is packed with"; }
 
-[ $# = 2 ] || fail 'usage: unpack.sh ARTIFACT FOLDER'
+# The keys of FILE, each in a file key.N of its own, since openssl reads the first of a file alone. Each has to be one that
+# signed_cli takes; the file key.N.octets says how many octets its signatures have.
+part_keys() {
+    keys=0
+    while IFS= read -r line || [ -n "$line" ]; do
+        case $line in
+            '-----BEGIN PUBLIC KEY-----'*) keys=$((keys + 1)) ;;
+        esac
+        printf '%s\n' "$line" >> "$work/key.$keys"
+    done < "$key"
+    [ $keys != 0 ] && [ ! -e "$work/key.0" ] || { echo 'the key is no PEM text of a public key'; return 2; }
+    for i in $(seq $keys); do
+        about=$(openssl rsa -pubin -in "$work/key.$i" -noout -text 2> /dev/null) || { echo 'the key is no RSA key'; return 2; }
+        bits=$(printf '%s\n' "$about" | sed -n 's/.*Public-Key: (\([0-9]*\) bit.*/\1/p')
+        if [ "${bits:-0}" -lt 2048 ] || [ "$bits" -gt 4096 ]; then
+            echo 'the key has fewer than 2048 bits or more than 4096'
+            return 2
+        fi
+        printf '%s\n' "$about" | grep -q '^Exponent: 65537 ' || { echo 'the key has another exponent than 65537'; return 2; }
+        echo $(((bits + 7) / 8)) > "$work/key.$i.octets"
+    done
+}
+
+# The same as signed_cli, by openssl, which takes a signature with octets behind it too: so their number is looked at here.
+signed_by_openssl() {
+    part_keys || return 2
+    base64 -d < "$work/signature" > "$work/raw" 2> /dev/null || { echo "the signature isn't base64"; return 1; }
+    for i in $(seq $keys); do
+        [ "$(wc -c < "$work/raw")" = "$(cat "$work/key.$i.octets")" ] || continue
+        ! openssl dgst -sha256 -verify "$work/key.$i" -signature "$work/raw" "$work/listed" > /dev/null 2>&1 || return 0
+    done
+    echo "the signature isn't one of this manifest under the key"
+    return 1
+}
+
+# Whether the manifest in the file `listed` was signed: the signature is in the file `signature`. What is at fault is written.
+signed() {
+    if [ -x "$beside/signed_cli" ]; then
+        "$beside/signed_cli" "$key" "$work/listed" "$work/signature"
+    elif command -v signed_cli > /dev/null; then
+        signed_cli "$key" "$work/listed" "$work/signature"
+    else
+        signed_by_openssl
+    fi 2>&1
+}
+
+key=
+if [ $# = 4 ] && [ "$1" = --key ]; then
+    key=$2
+    shift 2
+    if [ ! -f "$key" ] || [ ! -r "$key" ]; then
+        fail "$key is no file that can be read"
+    fi
+    case $key in
+        /*) ;;
+        *) key=./$key ;;
+    esac
+fi
+[ $# = 2 ] || fail 'usage: unpack.sh [--key FILE] ARTIFACT FOLDER'
+beside=$(dirname -- "$0")
 artifact=$1
 folder=$2
 while [ "$folder" != "${folder%/}" ]; do
@@ -96,12 +166,18 @@ esac
 for program in tar sha256sum; do
     command -v $program > /dev/null || fail "$program is missing"
 done
+if [ -n "$key" ] && [ ! -x "$beside/signed_cli" ] && ! command -v signed_cli > /dev/null; then
+    for program in openssl base64; do
+        command -v $program > /dev/null || fail "signed_cli is missing, and so is $program"
+    done
+fi
 if [ ! -f "$artifact" ] || [ ! -r "$artifact" ]; then
     fail "$artifact is no file that can be read"
 fi
 if [ -e "$folder" ] || [ -L "$folder" ]; then
     fail "$2 is there already"
 fi
+header=
 work=$(mktemp -d "$folder.XXXXXX" 2> /dev/null) || fail "no folder can be made beside $2"
 trap 'rm -rf "$work"' EXIT
 trap 'exit 2' HUP INT TERM
@@ -113,7 +189,22 @@ tar -tf - < "$artifact" > "$work/names" 2> /dev/null || refuse 'it is no tar, or
 tar -tvf - < "$artifact" > "$work/kinds" 2> /dev/null || refuse 'it is no tar, or is cut off'
 files_alone 'the artifact'
 once_each 'the artifact'
-header=
+
+# With a key the signature comes first: what isn't signed is read no further.
+member manifest | head -c $((most_meta + 1)) > "$work/listed"
+[ "$(wc -c < "$work/listed")" -le $most_meta ] || refuse "its manifest has more than $most_meta bytes"
+if [ -n "$key" ]; then
+    grep -qxF manifest.sig "$work/names" || refuse "it isn't signed"
+    member manifest.sig | head -c $((most_sign + 1)) > "$work/signature"
+    [ "$(wc -c < "$work/signature")" -le $most_sign ] || refuse "its signature has more than $most_sign bytes"
+    said=$(signed)
+    case $? in
+        0) ;;
+        1) refuse "${said#signed_cli: }" ;;
+        *) fail "it can't be told whether $key is a key of $artifact: ${said#signed_cli: }" ;;
+    esac
+fi
+
 payloads=
 while IFS= read -r name; do
     case $name in
@@ -147,8 +238,6 @@ format=$(sed -n 's/.*"version"[[:space:]]*:[[:space:]]*\([0-9]*\).*/\1/p' "$tree
 for name in manifest "${header:-header.tar}"; do
     grep -qxF "$name" "$work/names" || refuse "it has no $name"
 done
-member manifest | head -c $((most_meta + 1)) > "$work/listed"
-[ "$(wc -c < "$work/listed")" -le $most_meta ] || refuse "its manifest has more than $most_meta bytes"
 ! grep -Eqv '^[0-9A-Fa-f]{64}  .' "$work/listed" || refuse 'its manifest has a line that is no sum and path'
 ! grep -q '[[:cntrl:]]' "$work/listed" || refuse 'its manifest has a path with a control character'
 cut -c 67- "$work/listed" > "$work/names"
@@ -157,7 +246,8 @@ grep -qx version "$work/names" || refuse 'its manifest lacks version'
 grep -qxF "$header" "$work/names" || refuse "its manifest lacks $header"
 
 # The header, whose sum is checked before it is unpacked.
-packed=$(member "$header" | sum)
+tar -xOf - "$header" < "$artifact" > "$work/header" 2> /dev/null || refuse "$header is cut off or damaged"
+packed=$(sum < "$work/header")
 grep -qixF "$packed  $header" "$work/listed" || refuse "the sum of $header isn't the one of its manifest"
 grep -qixF "$(sum < "$tree/version")  version" "$work/listed" || refuse "the sum of version isn't the one of its manifest"
 list "$header" -tvf "$work/kinds"

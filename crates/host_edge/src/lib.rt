@@ -25,6 +25,7 @@ pub use counting::answered;
 pub use device::HostDevice;
 pub use failure::{Failure, Failures, named, told};
 pub use fault::HostFault;
+pub use files::read_start;
 pub use lock::{Lockable, hold};
 pub use progress::{Progress, Watched, asks_progress};
 pub use sink::HostSink;

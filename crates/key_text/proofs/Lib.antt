@@ -1,0 +1,4 @@
+pub mod DerLemmas
+pub mod PemLemmas
+pub mod KeyLemmas
+pub mod KeysLemmas
