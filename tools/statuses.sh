@@ -11,82 +11,7 @@ work=$(mktemp -d)
 trap 'rm -rf "$work"' EXIT
 trap 'exit 1' HUP INT TERM
 cd "$work" || exit 1
-passed=0
-failed=0
-
-# Sees that the command behind $2 ends with the status $1. What it writes goes to `out` and `err`.
-ends() {
-    wanted=$1
-    title=$2
-    shift 2
-    "$@" > out 2> err < /dev/null
-    found=$?
-    if [ "$found" = "$wanted" ]; then
-        passed=$((passed + 1))
-    else
-        failed=$((failed + 1))
-        echo "$title: exit status $found, not $wanted"
-    fi
-}
-
-# Sees that the last command wrote $1 to standard output.
-says() {
-    if [ "$(cat out)" = "$1" ]; then
-        passed=$((passed + 1))
-    else
-        failed=$((failed + 1))
-        echo "$title: '$(cat out)', not '$1'"
-    fi
-}
-
-# Sees that the last command wrote the line $1 to standard error.
-tells() {
-    told=no
-    while IFS= read -r line; do
-        [ "$line" != "$1" ] || told=yes
-    done < err
-    if [ $told = yes ]; then
-        passed=$((passed + 1))
-    else
-        failed=$((failed + 1))
-        echo "$title: '$(cat err)' on standard error, without '$1'"
-    fi
-}
-
-# Writes the manifest of the tree $1, whose files it lists.
-list() {
-    (cd "$1" && sha256sum version header/header-info header/headers/0000/type-info data/0000/* > manifest)
-}
-
-# Makes a tree for a device of the type beaglebone in the folder $1: an artifact named $2 with a payload of the type $3, whose
-# type-info has $4 behind its type.
-tree() {
-    mkdir -p "$1/header/headers/0000" "$1/data/0000"
-    printf '%s' '{"format":"mender","version":3}' > "$1/version"
-    printf '%s' "{\"payloads\":[{\"type\":\"$3\"}],\"artifact_provides\":{\"artifact_name\":\"$2\"},\"artifact_depends\":{\"device_type\":[\"beaglebone\"]}}" > "$1/header/header-info"
-    printf '%s' "{\"type\":\"$3\"${4:-}}" > "$1/header/headers/0000/type-info"
-    printf abc > "$1/data/0000/app.bin"
-    list "$1"
-}
-
-# Makes the data folder $1 of a device of the type beaglebone, whose module for payloads of the type `app` does the lines of
-# standard input, with the state or the question in $1.
-device() {
-    rm -rf "$1"
-    mkdir -p "$1/modules/v3"
-    echo device_type=beaglebone > "$1/device_type"
-    { echo '#!/bin/sh'; cat; } > "$1/modules/v3/app"
-    chmod +x "$1/modules/v3/app"
-}
-
-# So many bytes v.
-bytes() {
-    head -c "$1" /dev/zero | tr '\0' v
-}
-
-client() {
-    "$top/crates/client_cli/out/client_cli" "$@"
-}
+. "$top/tools/rows.sh"
 
 tree app release-2 app
 tree other release-2 app
@@ -211,9 +136,6 @@ ends 14 'it is gone on with' client --data d resume
 says 'not installed: rolled back'
 
 # The module that replaces one file.
-file_module() {
-    "$top/crates/file_module_cli/out/file_module_cli" "$@"
-}
 folder=f/work/0000
 mkdir -p $folder/files f/root
 echo old > f/root/target
@@ -244,9 +166,6 @@ mkdir f/root/target
 ends 3 'a target that is a folder' file_module ArtifactInstall $folder
 
 # The module for two partitions.
-ab_image() {
-    "$top/crates/ab_image_cli/out/ab_image_cli" "$@"
-}
 folder=a/work/0000
 mkdir -p $folder/files $folder/header
 head -c 8192 /dev/zero > a/blocks
@@ -284,9 +203,6 @@ ends 15 'no disk' ab_image Cleanup $folder
 tells 'cannot start 5'
 
 # The writer of trees.
-tree_cli() {
-    "$top/crates/tree_cli/out/tree_cli" "$@"
-}
 mkdir payload
 echo abc > payload/app.bin
 ends 0 'a tree is written' tree_cli payload written release-3 beaglebone app -
@@ -299,10 +215,140 @@ tells 'cannot start 6'
 mkfifo payload/fifo
 ends 4 'a fifo among the files' tree_cli payload other-tree release-3 beaglebone app -
 
-# Scenarios.
-scenario() {
-    "$top/crates/scenario_cli/out/scenario_cli" "$@"
+# The signature of a manifest, by the key, the manifest and the signature of the program's stored run.
+signed_cli() {
+    "$top/crates/signed_cli/out/signed_cli" "$@"
 }
+given=$top/crates/signed_cli/data
+cp "$given/key.pem" "$given/keys.pem" "$given/manifest" "$given/manifest.sig" .
+head -n 9 keys.pem > other.pem
+
+# Sees that the key in the file $2 and the signature in the file $3 of the manifest $4 come to the status $1.
+signature() {
+    ends "$1" "$2, $3 and $4" signed_cli "$2" "$4" "$3"
+    says ''
+}
+
+# A signature that isn't one of the manifest.
+unsigned() {
+    signature 1 key.pem "$1" manifest
+    tells "signed_cli: the signature isn't one of this manifest under the key"
+}
+
+# A text that is at fault as a key, for the reason $2.
+wrong_key() {
+    signature 2 "$1" manifest.sig manifest
+    tells "signed_cli: the key $2"
+}
+
+signature 0 key.pem manifest.sig manifest
+signature 0 keys.pem manifest.sig manifest
+cat key.pem other.pem > swapped.pem
+signature 0 swapped.pem manifest.sig manifest
+cat other.pem other.pem > others.pem
+signature 1 others.pem manifest.sig manifest
+tells "signed_cli: the signature isn't one of this manifest under the key"
+signature 1 other.pem manifest.sig manifest
+tr -d '\n' < keys.pem > joined.pem
+signature 0 joined.pem manifest.sig manifest
+fold -w 76 manifest.sig > folded.sig
+signature 0 key.pem folded.sig manifest
+sed 's/$/\r/' keys.pem > returns.pem
+signature 0 returns.pem manifest.sig manifest
+tr a b < manifest > changed
+signature 1 key.pem manifest.sig changed
+tells "signed_cli: the signature isn't one of this manifest under the key"
+: > empty.txt
+signature 1 key.pem manifest.sig empty.txt
+unsigned empty.txt
+
+# Signatures, octet by octet. The modulus of a key of 2,048 bits stands behind 33 octets of its DER form.
+base64 -d manifest.sig > raw
+sed '/-----/d' key.pem | base64 -d > der
+head -c 289 der | tail -c 256 > modulus
+head -c 255 raw | base64 > cut.sig
+{ cat raw; printf '\001'; } | base64 > longer.sig
+{ printf '\000'; cat raw; } | base64 > padded.sig
+head -c 256 /dev/zero | base64 > zero.sig
+{ head -c 255 /dev/zero; printf '\001'; } | base64 > one.sig
+base64 modulus > modulus.sig
+for signature in cut longer padded zero one modulus; do
+    unsigned $signature.sig
+done
+tr -d = < manifest.sig > unpadded.sig
+sed 's/^..../& /' manifest.sig > blank.sig
+for signature in unpadded.sig blank.sig key.pem; do
+    signature 1 key.pem $signature manifest
+    tells "signed_cli: the signature isn't base64"
+done
+
+# The key whose DER form is standard input, as a text.
+pem() {
+    echo '-----BEGIN PUBLIC KEY-----'
+    base64
+    echo '-----END PUBLIC KEY-----'
+}
+# The key by its parts. $1 is what their lengths have more or less than those of the key, $2 what stands before the modulus.
+rsa='\0060\0015\0006\0011\0052\0206\0110\0206\0367\0015\0001\0001\0001\0005\0000'
+octal() {
+    printf '\\0%03o' "$1"
+}
+key_with() {
+    {
+        printf '%b' "\\0060\\0202\\0001$(octal $((34 + $1)))$rsa\\0003\\0202\\0001$(octal $((15 + $1)))\\0000"
+        printf '%b' "\\0060\\0202\\0001$(octal $((10 + $1)))\\0002\\0202\\0001$(octal $((1 + $1)))$2"
+        cat modulus
+        printf '\002\003\001\000\001'
+    } | pem
+}
+key_with 0 '\0000' > rebuilt.pem
+signature 0 rebuilt.pem manifest.sig manifest
+key_with 1 '\0000\0000' > zero.pem
+key_with -1 '' > negative.pem
+{ cat der; printf '\000'; } | pem > behind.pem
+head -c 293 der | pem > short.pem
+for key in zero negative behind short; do
+    wrong_key $key.pem 'is no RSA key'
+done
+{ cat key.pem; echo more; } > text.pem
+{ echo; cat key.pem; } > before.pem
+sed 's/PUBLIC/RSA PUBLIC/' key.pem > bare.pem
+head -n 4 key.pem > half.pem
+cat key.pem half.pem > second.pem
+for key in empty.txt text.pem before.pem bare.pem half.pem second.pem manifest; do
+    wrong_key $key 'is no PEM text of a public key, which begins with -----BEGIN PUBLIC KEY-----'
+done
+cat key.pem zero.pem > wrong-behind.pem
+wrong_key wrong-behind.pem 'is no RSA key'
+signature 2 zero.pem key.pem manifest
+tells 'signed_cli: the key is no RSA key'
+
+# Words and files.
+bytes 65536 > most
+bytes 65537 > longer
+signature 1 key.pem manifest.sig most
+signature 2 key.pem manifest.sig longer
+tells 'signed_cli: longer is too long'
+for i in 1 2 3 4 5 6 7 8 9 10 11 12 13 14 15 16 17 18; do
+    cat keys.pem
+done > many.pem
+signature 0 many.pem manifest.sig manifest
+cat many.pem key.pem > too-many.pem
+signature 2 too-many.pem manifest.sig manifest
+tells 'signed_cli: too-many.pem is too long'
+mkfifo pipe
+for file in pipe none.pem payload /dev/zero; do
+    signature 2 $file manifest.sig manifest
+    tells "signed_cli: $file can't be read"
+    signature 2 key.pem $file manifest
+    signature 2 key.pem manifest.sig $file
+done
+ends 2 'no words' signed_cli
+tells 'usage: signed_cli KEY MANIFEST SIGNATURE'
+ends 2 'a word too many' signed_cli key.pem manifest manifest.sig more
+ends 1 'a full standard error' sh -c '"$1" key.pem changed manifest.sig 2> /dev/full' sh "$top/crates/signed_cli/out/signed_cli"
+
+# Scenarios.
 printf 'row nothing is held\n- show-artifact\n  unknown\n  status 0\n' > right.rows
 printf 'row nothing is held\n- show-artifact\n  known\n  status 0\n' > differs.rows
 printf 'row nothing is held\n\n- show-artifact\n' > unanswered.rows
@@ -342,5 +388,4 @@ printf '# a comment\n- resume\n' > wrong.rows
 ends 2 'a boot in front of the first row' scenario wrong.rows
 tells 'wrong.rows:2: this stands in front of the first row'
 
-echo "$passed passed, $failed failed"
-[ "$failed" = 0 ]
+sum_up

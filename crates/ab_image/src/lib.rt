@@ -20,7 +20,7 @@ mod words;
 
 pub use acting::act;
 pub use blocks::Blocks;
-pub use laws::each_boot_is_whole;
+pub use laws::{each_boot_is_whole, the_disk_in_numbers};
 pub use layout::LEAST_SIZE;
 pub use mem_blocks::MemBlocks;
 pub use partition::Partition;

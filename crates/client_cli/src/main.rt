@@ -10,8 +10,8 @@ use client_words::{Command, data_dir, read_words, tree_word};
 use device_mem::{AnswerList, AreaBytes, LossList, MemDevice, Script};
 use device_model::{Answer, ROOM};
 use host_edge::{
-    Failure, Failures, HostDevice, HostFault, HostSink, HostSource, Lockable, Watched,
-    asks_progress, cannot_start, fill_streams, say_first, words_of,
+    Failures, HostDevice, HostFault, HostSink, HostSource, Lockable, Watched, asks_progress, begin,
+    cannot_start, say_first,
 };
 use io_model::Sink;
 use lab::top;
@@ -154,17 +154,11 @@ fn list_forms<R: Eprint>(rt: &R, status: &Status) {
 
 /// Does what the words say, and ends with the number of its answer. What failed first is noted.
 fn run(rt: &HostRuntime, noted: &mut Failures) -> ExitCode {
-    let _streams = match fill_streams(rt) {
-        Ok(streams) => streams,
-        Err(reason) => {
-            noted.note(Failure::of("/dev/null", reason));
-            return cannot_start(rt, HostFault::NoStore);
-        }
+    let (_streams, words) = match begin(rt, noted) {
+        Ok(begun) => begun,
+        Err(fault) => return cannot_start(rt, fault),
     };
     let alloc = rt.alloc();
-    let Ok(words) = words_of(rt) else {
-        return cannot_start(rt, HostFault::NoMemory);
-    };
     let mut out = HostSink::new(rt);
     let ended = obey(rt, alloc, words.as_slice(), &mut out, noted);
     out.hand_first(noted);
@@ -183,6 +177,3 @@ fn main(rt: HostRuntime) -> ExitCode {
     say_first(&rt, &noted);
     ended
 }
-
-#[cfg(test)]
-mod tests;

@@ -10,8 +10,6 @@ mod folder;
 mod log;
 mod moment;
 mod script;
-#[cfg(test)]
-mod tests;
 mod work;
 
 pub use area::AreaBytes;
@@ -20,3 +18,6 @@ pub use disk::MemDisk;
 pub use moment::{Moment, moment_at};
 pub use script::{AnswerList, LossAt, LossList, Plan, Script, Tear};
 pub use work::{WorkFile, WorkList};
+
+#[cfg(test)]
+mod tests;

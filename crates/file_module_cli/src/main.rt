@@ -7,8 +7,8 @@ mod place;
 use crate::place::HostPlace;
 use file_module::{FileAct, act};
 use host_edge::{
-    Failure, Failures, HostFault, HostSink, Lockable, cannot_start, fill_streams, say_first,
-    source_of, words_of,
+    Failures, HostFault, HostSink, Lockable, Watched, asks_progress, begin, cannot_start,
+    say_first, source_of,
 };
 use std::alloc::Global;
 use std::os::unix::fs::FileExt;
@@ -31,40 +31,36 @@ where
     Ok(HostPlace::above(rt, alloc, folder)?)
 }
 
-/// Does what the words say. What failed first is noted.
-fn obey<R: Files + Clock + Print + Drop>(
+/// Does what the words say, and says how far it is where `says`. What failed first is noted.
+fn obey<R: Files + Clock + Print + Eprint + Drop>(
     rt: R,
     alloc: Global,
     words: &[String],
+    says: bool,
     noted: &mut Failures,
 ) -> Result<FileAct, HostFault>
 where
     R::File: FileExt + Lockable,
 {
     let mut out = HostSink::new(&rt);
-    let mut source = source_of(&rt, alloc, words, noted)?;
+    let source = source_of(&rt, alloc, words, noted)?;
+    let mut source = Watched::new(&rt, source, says);
     let mut place = place_of(&rt, alloc, words)?;
     let mut buffer = [0u8; 65_536];
     let ended = act(words, &mut source, &mut place, &mut out, &mut buffer);
     place.hand_first(noted);
-    source.hand_first(noted);
+    source.source().hand_first(noted);
     out.hand_first(noted);
     Ok(ended)
 }
 
 /// Does what the words of the command line say, and ends with the number of its answer. What failed first is noted.
 fn run(rt: &HostRuntime, noted: &mut Failures) -> ExitCode {
-    let _streams = match fill_streams(rt) {
-        Ok(streams) => streams,
-        Err(reason) => {
-            noted.note(Failure::of("/dev/null", reason));
-            return cannot_start(rt, HostFault::NoStore);
-        }
+    let (_streams, words) = match begin(rt, noted) {
+        Ok(begun) => begun,
+        Err(fault) => return cannot_start(rt, fault),
     };
-    let Ok(words) = words_of(rt) else {
-        return cannot_start(rt, HostFault::NoMemory);
-    };
-    match obey(rt, rt.alloc(), words.as_slice(), noted) {
+    match obey(rt, rt.alloc(), words.as_slice(), asks_progress(rt), noted) {
         Ok(ended) => ExitCode::from(ended.number()),
         Err(fault) => cannot_start(rt, fault),
     }

@@ -3,7 +3,6 @@
 
 mod children;
 mod clear;
-mod counting;
 mod device;
 mod disk;
 mod endings;
@@ -21,7 +20,6 @@ mod start;
 mod words;
 mod work;
 
-pub use counting::answered;
 pub use device::HostDevice;
 pub use failure::{Failure, Failures, named, told};
 pub use fault::HostFault;
@@ -30,8 +28,5 @@ pub use lock::{Lockable, hold};
 pub use progress::{Progress, Watched, asks_progress};
 pub use sink::HostSink;
 pub use source::{HostSource, source_of};
-pub use start::{cannot_start, fill_streams, say_first};
+pub use start::{begin, cannot_start, fill_streams, say_first};
 pub use words::words_of;
-
-#[cfg(test)]
-mod tests;

@@ -7,7 +7,7 @@ mod reading;
 mod store;
 mod writing;
 
-pub use laws::{areas_without_cells, zeros_are_empty};
+pub use laws::{areas_without_cells, the_area_in_numbers, zeros_are_empty};
 pub use store::{MountFault, Store};
 
 #[cfg(test)]

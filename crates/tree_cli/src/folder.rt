@@ -1,6 +1,6 @@
 //! A folder that a tree is written into.
 
-use host_edge::HostFault;
+use host_edge::{Failure, named};
 use std::alloc::{AllocError, Global};
 use std::fs::{self, OpenFile, OpenOptions};
 use std::io::{self, ErrorKind, Read, Write};
@@ -38,11 +38,13 @@ fn has_names<R: Files>(rt: &R, folder: &str) -> io::Result<bool> {
     Ok(false)
 }
 
-/// Whether nothing stands at the path, or an empty folder.
-fn is_free<R: Files>(rt: &R, path: &str) -> io::Result<bool> {
+/// Fails unless nothing stands at the path, or an empty folder.
+fn see_free<R: Files>(rt: &R, path: &str) -> io::Result<()> {
     match rt.symlink_metadata(path) {
-        Ok(kind) => Ok(kind.is_dir() && !has_names(rt, path)?),
-        Err(error) if error.kind() == ErrorKind::NotFound => Ok(true),
+        Ok(kind) if !kind.is_dir() => Err(io::Error::from(ErrorKind::NotADirectory)),
+        Ok(_) if has_names(rt, path)? => Err(io::Error::from(ErrorKind::DirectoryNotEmpty)),
+        Ok(_) => Ok(()),
+        Err(error) if error.kind() == ErrorKind::NotFound => Ok(()),
         Err(error) => Err(error),
     }
 }
@@ -64,18 +66,15 @@ fn above(path: &str) -> &str {
     }
 }
 
-fn sync<R: Files>(rt: &R, path: &str) -> io::Result<()> {
-    fs::open(rt, path)?.sync_all()
+fn sync<R: Files>(rt: &R, alloc: Global, path: &str) -> Result<(), Failure> {
+    let file = named(alloc, path, fs::open(rt, path))?;
+    named(alloc, path, file.sync_all())
 }
 
 impl<R: Files + Drop> Folder<R> {
     /// The folder at this path, where nothing stands or an empty folder. Nothing is made yet.
-    pub fn at(rt: R, alloc: Global, path: &str) -> Result<Folder<R>, HostFault> {
-        match is_free(&rt, path) {
-            Ok(true) => {}
-            Ok(false) => return Err(HostFault::NoTree),
-            Err(error) => return Err(HostFault::of(&error, HostFault::NoTree)),
-        }
+    pub fn at(rt: R, alloc: Global, path: &str) -> Result<Folder<R>, Failure> {
+        named(alloc, path, see_free(&rt, path))?;
         Ok(Folder {
             rt,
             alloc,
@@ -92,16 +91,16 @@ impl<R: Files + Drop> Folder<R> {
     }
 
     /// Makes a folder of the tree, where it isn't made yet.
-    fn add_folder(&mut self, path: &str) -> io::Result<()> {
+    fn add_folder(&mut self, path: &str) -> Result<(), Failure> {
         if !self.folders.iter().any(|made| made.as_str() == path) {
-            make_folder(&self.rt, path)?;
+            named(self.alloc, path, make_folder(&self.rt, path))?;
             self.folders.push(String::from_str(self.alloc, path)?)?;
         }
         Ok(())
     }
 
     /// Makes the folders above a file of the tree.
-    fn add_folders(&mut self, name: &str) -> io::Result<()> {
+    fn add_folders(&mut self, name: &str) -> Result<(), Failure> {
         let mut path = String::from_str(self.alloc, self.path.as_str())?;
         self.add_folder(path.as_str())?;
         if let Some((inner, _)) = name.rsplit_once('/') {
@@ -114,17 +113,18 @@ impl<R: Files + Drop> Folder<R> {
         Ok(())
     }
 
-    fn write_file(&self, path: &str, bytes: &[u8]) -> io::Result<R::File> {
-        let mut file = OpenOptions::new()
+    fn write_file(&self, path: &str, bytes: &[u8]) -> Result<R::File, Failure> {
+        let opened = OpenOptions::new()
             .write(true)
             .create_new(true)
-            .open(&self.rt, path)?;
-        file.write_all(bytes)?;
+            .open(&self.rt, path);
+        let mut file = named(self.alloc, path, opened)?;
+        named(self.alloc, path, file.write_all(bytes))?;
         Ok(file)
     }
 
     /// Writes a file, with the folders above it.
-    fn write(&mut self, name: &str, bytes: &[u8]) -> io::Result<()> {
+    fn write(&mut self, name: &str, bytes: &[u8]) -> Result<(), Failure> {
         self.add_folders(name)?;
         let path = self.path_of(name)?;
         self.write_file(path.as_str(), bytes)?;
@@ -133,30 +133,34 @@ impl<R: Files + Drop> Folder<R> {
     }
 
     /// Writes a file, or keeps it back where it is the manifest.
-    pub fn add(&mut self, path: &Name, bytes: &[u8]) -> io::Result<()> {
+    pub fn add(&mut self, path: &Name, bytes: &[u8]) -> Result<(), Failure> {
         match std::str::from_utf8(path.bytes()) {
             Ok("manifest") => self.manifest = Some(Vec::from_slice(self.alloc, bytes)?),
             Ok(name) => self.write(name, bytes)?,
-            Err(_) => return Err(io::Error::from(ErrorKind::InvalidFilename)),
+            Err(_) => {
+                let reason = io::Error::from(ErrorKind::InvalidFilename);
+                return Err(Failure::at(self.alloc, self.path.as_str(), reason));
+            }
         }
         Ok(())
     }
 
     /// Brings all that was written to the disk, then writes the manifest and brings it there too.
-    pub fn finish(&self) -> io::Result<()> {
+    pub fn finish(&self) -> Result<(), Failure> {
         for file in self.files.iter() {
-            sync(&self.rt, file.as_str())?;
+            sync(&self.rt, self.alloc, file.as_str())?;
         }
         for folder in self.folders.iter().rev() {
-            sync(&self.rt, folder.as_str())?;
+            sync(&self.rt, self.alloc, folder.as_str())?;
         }
-        let Some(manifest) = &self.manifest else {
-            return Err(io::Error::from(ErrorKind::InvalidInput));
-        };
         let path = self.path_of("manifest")?;
-        self.write_file(path.as_str(), manifest.as_slice())?
-            .sync_all()?;
-        sync(&self.rt, self.path.as_str())?;
-        sync(&self.rt, above(self.path.as_str()))
+        let Some(manifest) = &self.manifest else {
+            let reason = io::Error::from(ErrorKind::InvalidInput);
+            return Err(Failure::at(self.alloc, path.as_str(), reason));
+        };
+        let written = self.write_file(path.as_str(), manifest.as_slice())?;
+        named(self.alloc, path.as_str(), written.sync_all())?;
+        sync(&self.rt, self.alloc, self.path.as_str())?;
+        sync(&self.rt, self.alloc, above(self.path.as_str()))
     }
 }

@@ -5,7 +5,7 @@ mod folder;
 mod tree;
 
 use crate::tree::HostTree;
-use host_edge::{HostFault, HostSource, cannot_start, fill_streams, words_of};
+use host_edge::{Failures, HostFault, HostSource, begin, cannot_start, say_first};
 use std::alloc::Global;
 use std::fs::File;
 use std::process::ExitCode;
@@ -19,21 +19,25 @@ const FORM: &str = "tree_cli FILES OUT NAME DEVICE KIND CLEARS [KEY=VALUE]...
     OUT      the folder to write, which isn't there or is empty
     CLEARS   a pattern of the provides that go, or - for all";
 
-/// Does what the words say.
+/// Does what the words say. What failed first is noted.
 fn obey<R: Files<File = File> + Drop>(
     rt: R,
     alloc: Global,
     words: &[String],
+    noted: &mut Failures,
 ) -> Result<Made, HostFault> {
     let [files, out, rest @ ..] = words else {
         return Err(HostFault::NoTree);
     };
-    let mut source = HostSource::attach(&rt, alloc, files.as_str())?;
-    let mut tree = HostTree::below(&rt, alloc, out.as_str())?;
-    match make(alloc, rest, &mut source, &mut tree) {
-        Made::Made if tree.finish().is_err() => Ok(Made::TreeFault),
-        made => Ok(made),
-    }
+    let mut source = HostSource::attach_noting(&rt, alloc, files.as_str(), noted)?;
+    let mut tree = HostTree::below(&rt, alloc, out.as_str(), noted)?;
+    let made = match make(alloc, rest, &mut source, &mut tree) {
+        Made::Made if tree.finish().is_err() => Made::TreeFault,
+        made => made,
+    };
+    source.hand_first(noted);
+    tree.hand_first(noted);
+    Ok(made)
 }
 
 /// A path as text.
@@ -72,26 +76,29 @@ fn tell<R: Eprint>(rt: &R, made: &Made) {
     };
 }
 
-fn main(rt: HostRuntime) -> ExitCode {
-    let Ok(_streams) = fill_streams(&rt) else {
-        return cannot_start(&rt, HostFault::NoStore);
+/// Writes the tree that the words of the command line ask for, and ends with the number of its answer. What failed first is noted.
+fn run(rt: &HostRuntime, noted: &mut Failures) -> ExitCode {
+    let (_streams, words) = match begin(rt, noted) {
+        Ok(begun) => begun,
+        Err(fault) => return cannot_start(rt, fault),
     };
-    let Ok(words) = words_of(&rt) else {
-        return cannot_start(&rt, HostFault::NoMemory);
-    };
-    match obey(&rt, rt.alloc(), words.as_slice()) {
+    match obey(rt, rt.alloc(), words.as_slice(), noted) {
         Ok(made) => {
-            tell(&rt, &made);
+            tell(rt, &made);
             ExitCode::from(made.number())
         }
         Err(fault) => {
             if words.len() < 2 {
                 let _ = eprintln!(rt; "{FORM}");
             }
-            cannot_start(&rt, fault)
+            cannot_start(rt, fault)
         }
     }
 }
 
-#[cfg(test)]
-mod tests;
+fn main(rt: HostRuntime) -> ExitCode {
+    let mut noted = Failures::none();
+    let ended = run(&rt, &mut noted);
+    say_first(&rt, &noted);
+    ended
+}

@@ -1,7 +1,6 @@
 //! What is brought to the disk, and when: the module over a real disk that notes what is written and synced.
 
 use crate::obey;
-use crate::tests::TYPE_INFO;
 use ab_image::AbAct;
 use host_edge::{Failures, Lockable};
 use std::alloc::Allocator;
@@ -206,6 +205,9 @@ const ROWS: &[Row] = &[
     },
 ];
 
+const TYPE_INFO: &[u8] = b"{\"type\":\"ab-image\",\"artifact_provides\":{\"rootfs-image.checksum\":\
+\"ba7816bf8f01cfea414140de5dae2223b00361a396177a9cb410ff61f20015ad\"}}";
+
 /// Whether a word is done, and what it notes.
 fn ask(rt: &HostRuntime, word: &str) -> Result<(bool, String), Fail> {
     let notes = RefCell::new(String::new(rt.alloc()));
@@ -215,7 +217,7 @@ fn ask(rt: &HostRuntime, word: &str) -> Result<(bool, String), Fail> {
     ];
     let noting = Noting { rt, notes: &notes };
     let mut failures = Failures::none();
-    let done = match obey(noting, rt.alloc(), &words, &mut failures) {
+    let done = match obey(noting, rt.alloc(), &words, false, &mut failures) {
         Ok(AbAct::Done) => true,
         _ => false,
     };
@@ -241,4 +243,14 @@ fn each_write_is_synced_by_one_program(rt: HostRuntime) -> Result<(), Fail> {
     drop(other);
     rt.remove_dir_all(rt.alloc(), "synced")?;
     Ok(())
+}
+
+impl Eprint for Noting<'_> {
+    fn eprint<D: Display + Drop>(&self, value: D) -> io::Result<()> {
+        self.rt.eprint(value)
+    }
+
+    fn eprintln<D: Display + Drop>(&self, value: D) -> io::Result<()> {
+        self.rt.eprintln(value)
+    }
 }

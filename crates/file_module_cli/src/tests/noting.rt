@@ -199,3 +199,13 @@ impl Clock for Noting<'_> {
         self.rt.since_1970()
     }
 }
+
+impl Eprint for Noting<'_> {
+    fn eprint<D: Display + Drop>(&self, value: D) -> io::Result<()> {
+        self.rt.eprint(value)
+    }
+
+    fn eprintln<D: Display + Drop>(&self, value: D) -> io::Result<()> {
+        self.rt.eprintln(value)
+    }
+}

@@ -58,7 +58,7 @@ fn noted(rt: &HostRuntime, word: &str, owns: bool) -> Result<(FileAct, String), 
         owns,
     };
     let mut failures = Failures::none();
-    let Ok(ended) = obey(noting, rt.alloc(), &words, &mut failures) else {
+    let Ok(ended) = obey(noting, rt.alloc(), &words, false, &mut failures) else {
         return Err("it didn't start".into());
     };
     Ok((ended, notes.into_inner()))

@@ -1,14 +1,14 @@
-//! A runtime over the real one that notes what is made, written and synced.
+//! A runtime over the real one that notes what is made, written and synced, in the file `log` of the folder in which it is used.
 
-use crate::{HostDevice, HostFault, Lockable};
+use host_edge::Lockable;
 use std::alloc::{Allocator, Global};
+use std::cell::Cell;
 use std::fs::{File, Files, Metadata, OpenFile, OpenOptions, Permissions, TryLockError};
 use std::io::{self, ErrorKind, Read, Seek, SeekFrom, Write};
 use std::os::unix::fs::FileExt;
 use std::path::PathBuf;
 use std::process::{Child, Command, Processes, Stdio};
 use std::rt::Clock;
-use std::test::Fail;
 use std::time::Duration;
 
 /// What the system says of a program. The file `status` stands for it.
@@ -17,11 +17,10 @@ const STATUS: &str = "/proc/self/status";
 /// Notes go to the file `log`, a line each. A program without a path is looked for in `bin` first.
 #[derive(Drop)]
 pub struct Noting<'a> {
-    rt: &'a HostRuntime,
-    path: String,
+    pub rt: &'a HostRuntime,
     /// How often the file of a reply may be written, and whether it can be read.
-    pub replies: u32,
-    pub reads: bool,
+    pub replies: Cell<u32>,
+    pub reads: Cell<bool>,
 }
 
 /// Adds a line of two words.
@@ -47,22 +46,12 @@ pub struct NotedFile {
 }
 
 impl<'a> Noting<'a> {
-    /// In the folder of a test.
-    pub fn new(rt: &'a HostRuntime) -> Result<Noting<'a>, Fail> {
-        let folder = std::env::current_dir(rt)?;
-        let folder = folder.to_str().ok_or("no text")?;
-        Ok(Noting {
+    pub fn new(rt: &'a HostRuntime) -> Noting<'a> {
+        Noting {
             rt,
-            path: format!(in rt.alloc(); "{folder}/bin:/usr/bin:/bin")?,
-            replies: u32::MAX,
-            reads: true,
-        })
-    }
-
-    /// The device of the data folder `d`.
-    pub fn device(&self) -> Result<HostDevice<&Noting<'a>>, HostFault> {
-        let (device, _) = HostDevice::attach(self, self.rt.alloc(), "d")?;
-        Ok(device)
+            replies: Cell::new(u32::MAX),
+            reads: Cell::new(true),
+        }
     }
 }
 
@@ -79,8 +68,12 @@ impl Files for Noting<'_> {
             file: self.rt.open_file(how, found)?,
             log: open_log(self.rt)?,
             path: String::from_str(self.rt.alloc(), path)?,
-            writes: if is_reply { self.replies } else { u32::MAX },
-            reads: self.reads || !is_reply,
+            writes: if is_reply {
+                self.replies.get()
+            } else {
+                u32::MAX
+            },
+            reads: self.reads.get() || !is_reply,
         })
     }
 
@@ -233,7 +226,12 @@ impl Processes for Noting<'_> {
         if let Some(dir) = command.get_current_dir() {
             other.current_dir(dir)?;
         }
-        other.env("PATH", self.path.as_str())?;
+        let folder = std::env::current_dir(self.rt)?;
+        let Some(folder) = folder.to_str() else {
+            return Err(io::Error::from(ErrorKind::InvalidFilename));
+        };
+        let path = format!(in self.rt.alloc(); "{folder}/bin:/usr/bin:/bin")?;
+        other.env("PATH", path.as_str())?;
         self.rt.spawn(&other, stdin, stdout, stderr)
     }
 }
