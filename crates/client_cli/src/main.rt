@@ -177,3 +177,6 @@ fn main(rt: HostRuntime) -> ExitCode {
     say_first(&rt, &noted);
     ended
 }
+
+#[cfg(test)]
+mod tests;

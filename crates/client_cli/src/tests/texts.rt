@@ -2,8 +2,8 @@
 
 ghost use Rattle.std.specs.Prelude.{◌≡◌, ◌+◌, ◌≤◌, length, IfOk};
 
-use crate::boots::{calm, site_of};
-use crate::words::words_of;
+use super::boots::{calm, site_of};
+use super::words::words_of;
 use client_top::run;
 use device_mem::{AreaBytes, MemDevice};
 use device_model::{Device, ROOM};

@@ -37,7 +37,7 @@ impl Boots {
 }
 
 /// All children exit 0, modules say that they can be taken back, and no reboot is needed.
-pub fn calm(alloc: Global) -> Script {
+pub(super) fn calm(alloc: Global) -> Script {
     Script {
         answers: AnswerList::new(alloc),
         supports: Answer::Reply(0, Text32::cut(b"Yes")),
@@ -50,7 +50,7 @@ pub fn calm(alloc: Global) -> Script {
     }
 }
 
-pub fn new_device(alloc: Global, script: Script) -> Result<MemDevice, NoMemory>
+pub(super) fn new_device(alloc: Global, script: Script) -> Result<MemDevice, NoMemory>
     ensures on { IfOk result (λ d. (state_of d).on ≡ true) }
     ensures journal { IfOk result (λ d. (state_of d).journal ≡ []) }
     ensures room { IfOk result (λ d. ROOM ≤ (state_of d).room) }
@@ -58,7 +58,7 @@ pub fn new_device(alloc: Global, script: Script) -> Result<MemDevice, NoMemory>
     MemDevice::new(alloc, AreaBytes::zeros(alloc)?, ROOM, script)
 }
 
-pub fn site_of(alloc: Global) -> Result<Site, Fail> {
+pub(super) fn site_of(alloc: Global) -> Result<Site, Fail> {
     Ok(Site {
         device_type: Name::read(b"beaglebone").ok().ok_or("no name")?,
         scripts: ScriptList::new(alloc),

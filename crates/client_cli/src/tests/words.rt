@@ -3,7 +3,7 @@
 use std::alloc::{AllocError, Global};
 
 /// The words of a line, which a blank parts. Two blanks have an empty word between them.
-pub fn words_of(alloc: Global, line: &str) -> Result<Vec<String>, AllocError> {
+pub(super) fn words_of(alloc: Global, line: &str) -> Result<Vec<String>, AllocError> {
     let mut words = Vec::new(alloc);
     if !line.is_empty() {
         for word in line.split(' ') {

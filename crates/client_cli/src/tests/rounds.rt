@@ -1,7 +1,7 @@
 //! Rounds that seeds draw, by values that were computed elsewhere.
 
-use crate::boots::{new_device, site_of};
-use crate::words::words_of;
+use super::boots::{new_device, site_of};
+use super::words::words_of;
 use device_mem::Script;
 use device_model::Answer;
 use io_model::{MemSink, MemSource};
