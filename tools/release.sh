@@ -34,35 +34,29 @@ case $1 in
     /*) folder=$1 ;;
 esac
 cd "$(dirname "$0")/.."
-mkdir "$work/release" "$work/empty"
+. tools/programs.sh
+mkdir "$work/release"
 log=$work/log
 
 { rt ci 2>&1 || echo 'the gate ended badly'; } | tee "$log" >&2
 gate=$(tail -n 1 "$log")
 echo "$gate" | grep -Eq '^[0-9]+ passed, 0 failed$' || fail 1 'the gate did not pass'
 
-# Puts the program $1 into the release, built where the gate left none. By the further words it has to say $2 and end with $3.
+# Puts the program $1 into the release, built where the gate left none, and tries it.
 add() {
     program=$1
-    says=$2
-    wanted=$3
-    shift 3
     built=crates/$program/out/$program
-    [ -x "$built" ] || (cd "crates/$program" && rt run -- "$@") > "$log" 2>&1 || true
+    [ -x "$built" ] || (cd "crates/$program" && rt run) > "$log" 2>&1 || true
     [ -x "$built" ] || { tail -n 20 "$log" >&2; fail 1 "$program isn't built"; }
     strip -o "$work/release/$program" "$built" || fail 1 "$program can't be stripped"
     chmod 755 "$work/release/$program"
-    code=0
-    found=$("$work/release/$program" "$@" 2> "$log") || code=$?
-    [ "$found $code" = "$says $wanted" ] || fail 1 "$program says $found with the status $code, not $says with $wanted"
+    first_try "$program" "$work/release/$program" "$work/device"
+    [ "$found" = "$wanted" ] || fail 1 "$program ends with '$found', not '$wanted'"
 }
 
-add client_cli 'usage 2 0' 9 --help
-add file_module_cli Yes 0 SupportsRollback "$work/empty"
-add ab_image_cli '' 15 SupportsRollback
-add scenario_cli '' 2
-add tree_cli '' 15
-add signed_cli '' 2
+for name in $programs; do
+    add "$name"
+done
 {
     commit=$(git rev-parse HEAD 2> "$log") && echo "commit $commit$(git diff --quiet HEAD 2> "$log" || echo ', changed')"
     rt version

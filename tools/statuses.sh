@@ -17,6 +17,15 @@ tree app release-2 app
 tree other release-2 app
 printf abd > other/data/0000/app.bin
 
+# What a release expects of each program.
+. "$top/tools/programs.sh"
+for program in $programs; do
+    first_try "$program" "$top/crates/$program/out/$program" first
+    echo "$found" > out
+    title="the first try of $program"
+    says "$wanted"
+done
+
 # The client: what needs no deployment.
 device d < /dev/null
 ends 0 'an empty store' client --data d show-provides
