@@ -4,7 +4,8 @@
 # It needs the kit's `rt` on the path and coreutils. The first run proves some twenty crates, which README.md says the time of;
 # it tells of each as it is proved. A second run takes seconds. All that it makes is in out/.
 # usage: run.sh [--built]
-#   --built: the programs stand where the gate leaves them, and nothing is proved
+#   --built: the programs stand where the gate leaves them, or in the folder PROGRAMS of the environment, which has an absolute
+#            path, and nothing is proved
 # exit: 0 each command ended as it should
 #       1 one didn't, or a crate isn't proved; the last line is 'N passed, M failed'
 set -u
@@ -12,6 +13,8 @@ export LC_ALL=C
 cd "$(dirname "$0")" || exit 1
 rm -rf out
 mkdir -p out/empty || exit 1
+client_cli=${PROGRAMS:-$PWD/../crates/client_cli/out}/client_cli
+file_module_cli=${PROGRAMS:-$PWD/../crates/file_module_cli/out}/file_module_cli
 passed=0
 failed=0
 
@@ -79,7 +82,7 @@ client() {
     wanted=$1
     shift
     echo "\$ client_cli $*"
-    ../../crates/client_cli/out/client_cli "$@" 2>&1
+    "$client_cli" "$@" 2>&1
     code=$?
     echo "(exit status $code)"
     count "$code" "$wanted"
@@ -113,7 +116,7 @@ say 'A device of the type beaglebone has release 2, and the module for payloads 
 cp -R mender-data out/mender-data
 sh make_store.sh out/mender-data/store
 mkdir -p out/mender-data/modules/v3 out/mender-data/root
-cp ../crates/file_module_cli/out/file_module_cli out/mender-data/modules/v3/single-file || exit 1
+cp "$file_module_cli" out/mender-data/modules/v3/single-file || exit 1
 echo 'the application of release 2' > out/mender-data/root/target
 cd out || exit 1
 client 0 show-provides

@@ -3,6 +3,7 @@
 # as they lie on disks, stores of version 1, kills, and both modules. Part of the gate, behind `rt ci`, which leaves the programs in
 # crates/*/out/. It needs sh and coreutils.
 # usage: devices.sh
+# PROGRAMS in the environment is the absolute path of a folder with the programs, where they don't stand in crates/*/out/.
 # exit: 0 each row is as it should be; 1 one isn't; the last line is 'N passed, M failed'
 set -u
 export LC_ALL=C

@@ -4,6 +4,15 @@
 passed=0
 failed=0
 
+# The file of the program $1: where the gate leaves it, or in the folder PROGRAMS of the environment.
+program() {
+    if [ -n "${PROGRAMS:-}" ]; then
+        echo "$PROGRAMS/$1"
+    else
+        echo "$top/crates/$1/out/$1"
+    fi
+}
+
 # Sees that the command behind $2 ends with the status $1. What it writes goes to `out` and `err`.
 ends() {
     wanted=$1
@@ -75,23 +84,23 @@ bytes() {
 }
 
 client() {
-    "$top/crates/client_cli/out/client_cli" "$@"
+    "$(program client_cli)" "$@"
 }
 
 file_module() {
-    "$top/crates/file_module_cli/out/file_module_cli" "$@"
+    "$(program file_module_cli)" "$@"
 }
 
 ab_image() {
-    "$top/crates/ab_image_cli/out/ab_image_cli" "$@"
+    "$(program ab_image_cli)" "$@"
 }
 
 tree_cli() {
-    "$top/crates/tree_cli/out/tree_cli" "$@"
+    "$(program tree_cli)" "$@"
 }
 
 scenario() {
-    "$top/crates/scenario_cli/out/scenario_cli" "$@"
+    "$(program scenario_cli)" "$@"
 }
 
 # Sees that the lines of shell in $2 end with 0, which $1 says in words.

@@ -3,6 +3,7 @@
 # documents say. No proof reaches what a program's `main` ends with. Part of the gate, behind `rt ci`, which leaves the programs in
 # crates/*/out/. It needs sh and coreutils.
 # usage: statuses.sh
+# PROGRAMS in the environment is the absolute path of a folder with the programs, where they don't stand in crates/*/out/.
 # exit: 0 each is as it should be; 1 one isn't; the last line is 'N passed, M failed'
 set -u
 export LC_ALL=C
@@ -19,10 +20,10 @@ printf abd > other/data/0000/app.bin
 
 # What a release expects of each program.
 . "$top/tools/programs.sh"
-for program in $programs; do
-    first_try "$program" "$top/crates/$program/out/$program" first
+for name in $programs; do
+    first_try "$name" "$(program "$name")" first
     echo "$found" > out
-    title="the first try of $program"
+    title="the first try of $name"
     says "$wanted"
 done
 
@@ -53,7 +54,7 @@ tells 'cannot start 2'
 echo type=beaglebone > empty/device_type
 ends 15 'a device type that is none' client --data empty show-provides
 tells 'cannot start 3'
-ends 8 'a full standard output' sh -c '"$1" --data d show-artifact > /dev/full' sh "$top/crates/client_cli/out/client_cli"
+ends 8 'a full standard output' sh -c '"$1" --data d show-artifact > /dev/full' sh "$(program client_cli)"
 mkfifo app/data/0000/fifo
 ends 6 'a tree with a fifo' client --data d check app
 says 'source fault'
@@ -166,7 +167,7 @@ mkfifo $folder/files/app.bin
 ends 4 'a payload that is a fifo' file_module ArtifactInstall $folder
 rm $folder/files/app.bin
 echo new > $folder/files/app.bin
-ends 5 'a reply that is not written' sh -c '"$1" SupportsRollback "$2" > /dev/full' sh "$top/crates/file_module_cli/out/file_module_cli" $folder
+ends 5 'a reply that is not written' sh -c '"$1" SupportsRollback "$2" > /dev/full' sh "$(program file_module_cli)" $folder
 echo x > f/root/target.saved
 echo other > f/root/target
 ends 7 'a saved file of another program' file_module ArtifactRollback $folder
@@ -194,7 +195,7 @@ ends 6 'a commit without a download' ab_image ArtifactCommit $folder
 ends 0 'it downloads' ab_image Download $folder
 ends 0 'it commits' ab_image ArtifactCommit $folder
 ends 0 'it takes back' ab_image ArtifactRollback $folder
-ends 5 'an image with another sum' sh -c 'printf abd > "$2/files/image"; "$1" Download "$2"' sh "$top/crates/ab_image_cli/out/ab_image_cli" $folder
+ends 5 'an image with another sum' sh -c 'printf abd > "$2/files/image"; "$1" Download "$2"' sh "$(program ab_image_cli)" $folder
 bytes 2049 > $folder/files/image
 info "$(sha256sum < $folder/files/image | head -c 64)"
 ends 4 'an image that is too long' ab_image Download $folder
@@ -206,7 +207,7 @@ rm $folder/files/more $folder/files/image
 mkfifo $folder/files/image
 info "$(printf abc | sha256sum | head -c 64)"
 ends 8 'a payload that is a fifo' ab_image Download $folder
-ends 9 'a reply that is not written' sh -c '"$1" SupportsRollback "$2" > /dev/full' sh "$top/crates/ab_image_cli/out/ab_image_cli" $folder
+ends 9 'a reply that is not written' sh -c '"$1" SupportsRollback "$2" > /dev/full' sh "$(program ab_image_cli)" $folder
 rm a/blocks
 ends 15 'no disk' ab_image Cleanup $folder
 tells 'cannot start 5'
@@ -226,7 +227,7 @@ ends 4 'a fifo among the files' tree_cli payload other-tree release-3 beaglebone
 
 # The signature of a manifest, by the key, the manifest and the signature of the program's stored run.
 signed_cli() {
-    "$top/crates/signed_cli/out/signed_cli" "$@"
+    "$(program signed_cli)" "$@"
 }
 given=$top/crates/signed_cli/data
 cp "$given/key.pem" "$given/keys.pem" "$given/manifest" "$given/manifest.sig" .
@@ -355,7 +356,7 @@ done
 ends 2 'no words' signed_cli
 tells 'usage: signed_cli KEY MANIFEST SIGNATURE'
 ends 2 'a word too many' signed_cli key.pem manifest manifest.sig more
-ends 1 'a full standard error' sh -c '"$1" key.pem changed manifest.sig 2> /dev/full' sh "$top/crates/signed_cli/out/signed_cli"
+ends 1 'a full standard error' sh -c '"$1" key.pem changed manifest.sig 2> /dev/full' sh "$(program signed_cli)"
 
 # Scenarios.
 printf 'row nothing is held\n- show-artifact\n  unknown\n  status 0\n' > right.rows
