@@ -7,14 +7,14 @@ use Rattle.io_model.specs.Sink.{Written}
 use Rattle.device_model.specs.declared.calls.Down.{Down}
 use Rattle.device_model.specs.declared.calls.Down.TheVariants.{Off, Fault}
 use Rattle.device_model.specs.declared.calls.ModState.TheVariants as state
+use Rattle.device_model.specs.declared.module_word.ModuleWord.{ModuleWord}
+use Rattle.device_model.specs.declared.module_word.ModuleWord.TheVariants.{State}
 use Rattle.device_model.specs.Disk.{Disk, IsApart, IsSettled, WhereTold, MayHold}
 use Rattle.device_model.specs.How.{Through, how_of as down_how}
 use Rattle.device_model.proofs.Keeps.{same}
 use Rattle.ab_image.specs.declared.partition.Partition.{Partition}
 use Rattle.ab_image.specs.declared.report.AbAct.{AbAct}
 use Rattle.ab_image.specs.declared.report.AbAct.TheVariants as answer
-use Rattle.ab_image.specs.declared.words.Word.{Word}
-use Rattle.ab_image.specs.declared.words.Word.TheVariants.{State}
 use Rattle.ab_image.specs.Layout.{choice_at, origin_at, chosen, origin, Agree, StaysOrNames}
 use Rattle.ab_image.specs.Blocks.{Medium, EndsAs}
 use Rattle.ab_image.specs.Parts.{Within, KeepsByte, Calm, Aligns, Cleans, RollsBack}
@@ -37,7 +37,7 @@ IsUnread answer.SinkFault = ⊤
 IsUnread answer.Off = ⊤
 IsUnread answer.NoMemory = ⊥
 
-for-unread : (word : Option Word) (size : ℕ) (result : AbAct) → IsUnread result → IsFor word size result
+for-unread : (word : Option ModuleWord) (size : ℕ) (result : AbAct) → IsUnread result → IsFor word size result
 for-unread word size answer.Done u = tt
 for-unread word size answer.Usage u = absurd u
 for-unread word size (answer.BadPayload n) u = absurd u
@@ -73,7 +73,7 @@ pub if-all : (disk : Option Disk) (P : Disk → Type 0) → ((d : Disk) → P d)
 if-all None P h = tt
 if-all (Some d) P h = h d
 
-module _ (word : Word) (alone : IsAlone (Some word)) where
+module _ (word : ModuleWord) (alone : IsAlone (Some word)) where
   no-download : Some word ≡ Some (State state.Download) → ⊥
   no-download e = subst IsAlone e alone
 
@@ -108,7 +108,7 @@ pub names-both : (a : Option Disk) → WhereTold (λ d e. StaysOrNames choice_at
 names-both a = where-refl _ (λ d. (names-self choice_at d.area, names-self origin_at d.area)) a
 
 -- a query, and a state that does nothing
-pub idle-acts : (word : Word) → IsAlone (Some word) → IsIdle (Some word) → (content : Content) (faults : ℕ) (blocks : Medium) (before behind : Written) (result : AbAct) → IsUnread result → EndsAs (how_of result) blocks blocks → Says (Some word) result before behind
+pub idle-acts : (word : ModuleWord) → IsAlone (Some word) → IsIdle (Some word) → (content : Content) (faults : ℕ) (blocks : Medium) (before behind : Written) (result : AbAct) → IsUnread result → EndsAs (how_of result) blocks blocks → Says (Some word) result before behind
     → ActsFor (Some word) content (record { source_faults = faults; blocks = blocks; sink = before }) (record { source_faults = faults; blocks = blocks; sink = behind }) result
 idle-acts word alone idle content faults blocks before behind result u ends says = record {
   answered = answered-alone word alone content blocks result u;
@@ -176,7 +176,7 @@ within-boots kept apart old new w area held =
     let before = w.touches area held in
     record { before = before.0; held = before.1; same = λ image whole. whole-kept kept before.0 area before.2 (chosen before.0) image (apart (length before.0) (chosen before.0)) whole }
 
-module _ (word : Word) (alone : IsAlone (Some word)) (at : ℕ) (apart : (size : ℕ) (p : Partition) → Keeps (IsApart at 1) size p) (goal : List ℕ → List ℕ → Type 0)
+module _ (word : ModuleWord) (alone : IsAlone (Some word)) (at : ℕ) (apart : (size : ℕ) (p : Partition) → Keeps (IsApart at 1) size p) (goal : List ℕ → List ℕ → Type 0)
     (content : Content) (faults : ℕ) (old new : Medium) (sink : Written) (r : Result (Unit {0}) Down) (a : Aligns at goal old r new) (says : Says (Some word) (answer_of r) sink sink) where
   pub aligned-acts : (IsIdle (Some word) → ⊥) → ((MayChoose (Some word) → ⊥) → WhereTold (KeepsChoice (answer_of r)) old.disk new.disk)
       → (MayChoose (Some word) → Within (IsApart choice_at 1) old new) → (Some word ≡ Some (State state.Cleanup) → Within (IsApart origin_at 1) old new)

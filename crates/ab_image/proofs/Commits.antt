@@ -10,13 +10,13 @@ use Rattle.io_model.specs.Sink.{Written}
 use Rattle.device_model.specs.declared.calls.Down.{Down}
 use Rattle.device_model.specs.declared.calls.Down.TheVariants.{Off, Fault}
 use Rattle.device_model.specs.declared.calls.ModState.TheVariants as state
+use Rattle.device_model.specs.declared.module_word.ModuleWord.{ModuleWord}
+use Rattle.device_model.specs.declared.module_word.ModuleWord.TheVariants.{State}
 use Rattle.device_model.specs.Disk.{Disk, IsApart, WhereTold, IsSettled, MayHold, area_of}
 use Rattle.device_model.specs.How.{Through, how_of as down_how}
 use Rattle.ab_image.specs.declared.artifact.Found.{Found}
 use Rattle.ab_image.specs.declared.report.AbAct.{AbAct}
 use Rattle.ab_image.specs.declared.report.AbAct.TheVariants as answer
-use Rattle.ab_image.specs.declared.words.Word.{Word}
-use Rattle.ab_image.specs.declared.words.Word.TheVariants.{State}
 use Rattle.ab_image.specs.Layout.{choice_at, origin_at, other, chosen, Agree, IsReady}
 use Rattle.ab_image.specs.Blocks.{Medium, EndsAs}
 use Rattle.ab_image.specs.Parts.{KeepsByte, Calm}
@@ -29,7 +29,7 @@ use Rattle.ab_image.proofs.Alone.{when-all, if-all, within-boots}
 use Rattle.ab_image.proofs.Naming.{if-disk, where-both, names-kept, through-on}
 use Rattle.ab_image.proofs.Still.{source-ends, still-acts}
 
-abbrev pub committed : Option Word
+abbrev pub committed : Option ModuleWord
 committed = Some (State state.ArtifactCommit)
 
 -- the answers of ArtifactCommit

@@ -5,9 +5,9 @@ use Rattle.io_model.specs.Source.{Content}
 use Rattle.io_model.specs.Sink.{Written}
 use Rattle.device_model.specs.Disk.{Disk, IsApart, WhereTold, MayHold}
 use Rattle.device_model.proofs.Keeps.{same}
+use Rattle.device_model.specs.declared.module_word.ModuleWord.{ModuleWord}
 use Rattle.ab_image.specs.declared.report.AbAct.{AbAct}
 use Rattle.ab_image.specs.declared.report.AbAct.TheVariants as answer
-use Rattle.ab_image.specs.declared.words.Word.{Word}
 use Rattle.ab_image.specs.Layout.{choice_at, origin_at, IsSpared, IsSane}
 use Rattle.ab_image.specs.Blocks.{Medium, EndsAs}
 use Rattle.ab_image.specs.Parts.{Within, KeepsByte}
@@ -47,7 +47,7 @@ where-all R h (Some d) = h d
 pub within-still : (kept : ℕ → Type 0) (blocks : Medium) → Within kept blocks blocks
 within-still kept blocks = record { touches = touches-self kept blocks.disk blocks.disk (λ area held. held); bytes = λ i k. where-all (KeepsByte i blocks) (λ d. inl refl) blocks.disk; told = where-all (λ d e. ⊤) (λ d. tt) blocks.disk }
 
-pub still-acts : (word : Option Word) (content : Content) (faults after : ℕ) (blocks : Medium) (sink : Written) (result : AbAct) → Answered word content blocks result → EndsAs (how_of result) blocks blocks
+pub still-acts : (word : Option ModuleWord) (content : Content) (faults after : ℕ) (blocks : Medium) (sink : Written) (result : AbAct) → Answered word content blocks result → EndsAs (how_of result) blocks blocks
     → SourceEnds faults after result → Says word result sink sink → (result ≡ answer.Done → ⊥)
     → ActsFor word content (record { source_faults = faults; blocks = blocks; sink = sink }) (record { source_faults = after; blocks = blocks; sink = sink }) result
 still-acts word content faults after blocks sink result answered ends source says undone = record {

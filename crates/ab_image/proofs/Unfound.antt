@@ -5,11 +5,11 @@ use Rattle.io_model.specs.Source.{Tree, Content, When}
 use Rattle.io_model.specs.Source.Content.{Told, Untold}
 use Rattle.io_model.specs.Sink.{Written}
 use Rattle.device_model.specs.declared.calls.ModState.TheVariants as state
+use Rattle.device_model.specs.declared.module_word.ModuleWord.{ModuleWord}
+use Rattle.device_model.specs.declared.module_word.ModuleWord.TheVariants.{State}
 use Rattle.device_model.proofs.Keeps.{same}
 use Rattle.ab_image.specs.declared.report.AbAct.{AbAct}
 use Rattle.ab_image.specs.declared.report.AbAct.TheVariants as answer
-use Rattle.ab_image.specs.declared.words.Word.{Word}
-use Rattle.ab_image.specs.declared.words.Word.TheVariants.{State}
 use Rattle.ab_image.specs.Layout.{partition_size, IsSpared}
 use Rattle.ab_image.specs.Blocks.{Medium, EndsAs}
 use Rattle.ab_image.specs.Artifact.{count_images, image_of, listed}
@@ -18,7 +18,7 @@ use Rattle.ab_image.specs.Act.{Comes, IsCut, FindsImage, HasCount, HasNoSum, IsT
 use Rattle.ab_image.proofs.Alone.{neither, when-all, if-all, where-refl, names-both}
 use Rattle.ab_image.proofs.Still.{within-still}
 
-abbrev pub download : Option Word
+abbrev pub download : Option ModuleWord
 download = Some (State state.Download)
 
 -- two values for one option

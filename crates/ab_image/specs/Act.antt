@@ -9,16 +9,17 @@ use Rattle.device_model.specs.declared.calls.Down.{Down}
 use Rattle.device_model.specs.declared.calls.Down.TheVariants.{Off, Fault}
 use Rattle.device_model.specs.declared.calls.ModState.{ModState}
 use Rattle.device_model.specs.declared.calls.ModState.TheVariants as state
+use Rattle.device_model.specs.declared.module_word.ModuleWord.{ModuleWord}
+use Rattle.device_model.specs.declared.module_word.ModuleWord.TheVariants.{State, Ask}
 use Rattle.device_model.specs.Disk.{Disk, WhereTold, IsApart, IsSynced, MayHold, KeepsDisk, IsSettled, area_of}
 use Rattle.device_model.specs.How.{How, Through, PowerLost, DiskFailed}
+use Rattle.device_model.specs.Names.{module_called}
 use Rattle.ab_image.specs.declared.report.AbAct.{AbAct}
 use Rattle.ab_image.specs.declared.report.AbAct.TheVariants as answer
-use Rattle.ab_image.specs.declared.words.Word.{Word}
-use Rattle.ab_image.specs.declared.words.Word.TheVariants.{State, Ask}
 use Rattle.ab_image.specs.Layout.{choice_at, origin_at, partition_size, other, chosen, origin, Agree, StaysOrNames, IsSpared, Whole, IsSane, IsReady}
 use Rattle.ab_image.specs.Blocks.{Medium, EndsAs}
 use Rattle.ab_image.specs.Parts.{Within}
-use Rattle.ab_image.specs.Words.{word_of, reply_to}
+use Rattle.ab_image.specs.Words.{reply_to}
 use Rattle.ab_image.specs.Artifact.{count_images, image_of, listed}
 
 -- all that a call changes
@@ -50,40 +51,40 @@ pub record Comes (meant : AbAct) (cause : Type 0) (result : AbAct) : Type 0 wher
   pub always : cause → (result ≡ meant) ⊎ IsCut result
 
 -- Download is asked for, and there is one image
-pub record FindsImage (word : Option Word) (tree : Tree) : Type 0 where
+pub record FindsImage (word : Option ModuleWord) (tree : Tree) : Type 0 where
   pub asked : word ≡ Some (State state.Download)
   pub one : count_images tree ≡ 1
 
 -- and it is the image whose sum is listed
-pub record FindsSum (word : Option Word) (tree : Tree) (image sum : List ℕ) : Type 0 where
+pub record FindsSum (word : Option ModuleWord) (tree : Tree) (image sum : List ℕ) : Type 0 where
   pub finds : FindsImage word tree
   pub is_image : image_of tree ≡ Some image
   pub is_listed : listed tree ≡ Some sum
 
-pub record HasCount (word : Option Word) (tree : Tree) (count : ℕ) : Type 0 where
+pub record HasCount (word : Option ModuleWord) (tree : Tree) (count : ℕ) : Type 0 where
   pub asked : word ≡ Some (State state.Download)
   pub is_count : count ≡ count_images tree
   pub wrong : count ≢ 1
 
-pub record HasNoSum (word : Option Word) (tree : Tree) : Type 0 where
+pub record HasNoSum (word : Option ModuleWord) (tree : Tree) : Type 0 where
   pub asks : FindsImage word tree ⊎ (word ≡ Some (State state.ArtifactCommit))
   pub none : listed tree ≡ None
 
-pub record IsTooLong (word : Option Word) (tree : Tree) (size count : ℕ) : Type 0 where
+pub record IsTooLong (word : Option ModuleWord) (tree : Tree) (size count : ℕ) : Type 0 where
   pub image : List ℕ
   pub sum : List ℕ
   pub finds : FindsSum word tree image sum
   pub is_count : count ≡ length image
   pub long : partition_size size < count
 
-pub record HasOtherSum (word : Option Word) (tree : Tree) (size : ℕ) (sum found : List ℕ) : Type 0 where
+pub record HasOtherSum (word : Option ModuleWord) (tree : Tree) (size : ℕ) (sum found : List ℕ) : Type 0 where
   pub image : List ℕ
   pub finds : FindsSum word tree image sum
   pub fits : length image ≤ partition_size size
   pub is_found : found ≡ sha256 image
   pub differs : sum ≢ found
 
-pub record IsNotReady (word : Option Word) (tree : Tree) (area : List ℕ) : Type 0 where
+pub record IsNotReady (word : Option ModuleWord) (tree : Tree) (area : List ℕ) : Type 0 where
   pub asked : word ≡ Some (State state.ArtifactCommit)
   pub sum : List ℕ
   pub listed : listed tree ≡ Some sum
@@ -91,7 +92,7 @@ pub record IsNotReady (word : Option Word) (tree : Tree) (area : List ℕ) : Typ
   pub unready : IsReady area (other (chosen area)) sum → ⊥
 
 -- which words an answer comes for
-abbrev pub IsFor : Option Word → ℕ → AbAct → Type 0
+abbrev pub IsFor : Option ModuleWord → ℕ → AbAct → Type 0
 IsFor word size answer.Done = ⊤
 IsFor word size answer.Usage = word ≡ None
 IsFor word size (answer.BadPayload n) = (word ≡ Some (State state.Download)) × (n ≢ 1)
@@ -197,7 +198,7 @@ pub record BootsAs (old : Option Disk) (area : List ℕ) : Type 0 where
   pub same : (image : List ℕ) → Whole before (chosen before) image → Whole area (chosen before) image
 
 -- a query asks and writes its reply, and every other word writes nothing
-abbrev pub Says : Option Word → AbAct → Written → Written → Type 0
+abbrev pub Says : Option ModuleWord → AbAct → Written → Written → Type 0
 Says (Some (Ask query)) answer.SinkFault old new = WritesFront old (reply_to query) new
 Says (Some (Ask query)) answer.Done old new = Writes old (reply_to query) new
 Says (Some (Ask query)) result old new = ⊥
@@ -205,7 +206,7 @@ Says (Some (State s)) result old new = (result ≢ answer.SinkFault) × (new ≡
 Says None result old new = (result ≢ answer.SinkFault) × (new ≡ old)
 
 -- the words do nothing to the disk
-abbrev pub IsIdle : Option Word → Type 0
+abbrev pub IsIdle : Option ModuleWord → Type 0
 IsIdle None = ⊤
 IsIdle (Some (Ask query)) = ⊤
 IsIdle (Some (State state.Download)) = ⊥
@@ -220,14 +221,14 @@ IsIdle (Some (State state.ArtifactFailure)) = ⊤
 IsIdle (Some (State state.Cleanup)) = ⊥
 
 -- the words have nothing to do on a disk with this area
-abbrev pub HasNothingToDo : Option Word → List ℕ → Type 0
+abbrev pub HasNothingToDo : Option ModuleWord → List ℕ → Type 0
 HasNothingToDo (Some (State state.ArtifactCommit)) area = Agree area → ⊥
 HasNothingToDo (Some (State state.ArtifactRollback)) area = Agree area
 HasNothingToDo (Some (State state.Cleanup)) area = Agree area
 HasNothingToDo word area = IsIdle word
 
 -- the words that read no artifact
-abbrev pub IsAlone : Option Word → Type 0
+abbrev pub IsAlone : Option ModuleWord → Type 0
 IsAlone None = ⊤
 IsAlone (Some (Ask query)) = ⊤
 IsAlone (Some (State state.Download)) = ⊥
@@ -242,17 +243,17 @@ IsAlone (Some (State state.ArtifactFailure)) = ⊤
 IsAlone (Some (State state.Cleanup)) = ⊤
 
 -- the words that may write the choice
-abbrev pub MayChoose : Option Word → Type 0
+abbrev pub MayChoose : Option ModuleWord → Type 0
 MayChoose word = (word ≡ Some (State state.ArtifactCommit)) ⊎ (word ≡ Some (State state.ArtifactRollback))
 
 -- after a state is Done: nothing is unsynced, and this holds of the area before and the one after
-abbrev pub Leaves : Option Word → ModState → AbAct → Medium → Medium → (List ℕ → List ℕ → Type 0) → Type 0
+abbrev pub Leaves : Option ModuleWord → ModState → AbAct → Medium → Medium → (List ℕ → List ℕ → Type 0) → Type 0
 Leaves word state result old new R = word ≡ Some (State state) → result ≡ answer.Done → IsSettled new.disk × WhereTold (λ d e. R d.area e.area) old.disk new.disk
 
 -- ---- the contract
 
 -- Answers by their causes, in the order of their numbers.
-pub record Answered (word : Option Word) (content : Content) (old : Medium) (result : AbAct) : Type 0 where
+pub record Answered (word : Option ModuleWord) (content : Content) (old : Medium) (result : AbAct) : Type 0 where
   -- each answer comes for its words alone
   pub is_for : IsFor word old.size result
   -- the words aren't a word and a folder
@@ -269,7 +270,7 @@ pub record Answered (word : Option Word) (content : Content) (old : Medium) (res
   pub not_ready : When content (λ tree. IfSome old.disk (λ d. Comes answer.NotReady (IsNotReady word tree d.area) result))
 
 -- What a call for this word answers and leaves.
-pub record ActsFor (word : Option Word) (content : Content) (old new : Scene) (result : AbAct) : Type 0 where
+pub record ActsFor (word : Option ModuleWord) (content : Content) (old new : Scene) (result : AbAct) : Type 0 where
   pub answered : Answered word content old.blocks result
   -- `DiskFault`, `Off` and `SourceFault` come exactly where the count rose
   pub ends : EndsAs (how_of result) old.blocks new.blocks
@@ -306,4 +307,4 @@ pub record ActsFor (word : Option Word) (content : Content) (old new : Scene) (r
 
 -- What a call with these words answers and leaves.
 abbrev pub Acts : List (String Global) → Content → Scene → Scene → AbAct → Type 0
-Acts words content old new result = ActsFor (word_of words) content old new result
+Acts words content old new result = ActsFor (module_called words) content old new result

@@ -10,8 +10,7 @@ use crate::downloading::download;
 use crate::replying::reply;
 use crate::report::AbAct;
 use crate::settling::{clean_up, roll_back};
-use crate::words::{Word, read_words};
-use device_model::{Down, ModState};
+use device_model::{Down, ModState, ModuleWord};
 use io_model::{Sink, Source};
 use std::alloc::Global;
 
@@ -30,7 +29,7 @@ pub fn act<S: Source, B: Blocks, O: Sink>(
     ensures plan { S.plan source.new ≡ S.plan source.old }
     ensures acts { Acts words.now (S.content source.old) (record { source_faults = S.faults source.old; blocks = B.means blocks.old; sink = O.means out.old }) (record { source_faults = S.faults source.new; blocks = B.means blocks.new; sink = O.means out.new }) result }
 {
-    match read_words(words) {
+    match ModuleWord::of_call(words) {
         None => AbAct::Usage,
         Some(word) => act_for(alloc, word, source, blocks, out, buffer),
     }
@@ -39,7 +38,7 @@ pub fn act<S: Source, B: Blocks, O: Sink>(
 /// What a word does.
 fn act_for<S: Source, B: Blocks, O: Sink>(
     alloc: Global,
-    word: Word,
+    word: ModuleWord,
     source: &mut S,
     blocks: &mut B,
     out: &mut O,
@@ -52,26 +51,26 @@ fn act_for<S: Source, B: Blocks, O: Sink>(
     ensures acts { ActsFor (Some word) (S.content source.old) (record { source_faults = S.faults source.old; blocks = B.means blocks.old; sink = O.means out.old }) (record { source_faults = S.faults source.new; blocks = B.means blocks.new; sink = O.means out.new }) result }
 {
     match word {
-        Word::State(ModState::Download) => download(alloc, source, blocks, buffer),
-        Word::State(ModState::ArtifactCommit) => commit(alloc, source, blocks, buffer),
+        ModuleWord::State(ModState::Download) => download(alloc, source, blocks, buffer),
+        ModuleWord::State(ModState::ArtifactCommit) => commit(alloc, source, blocks, buffer),
         _ => act_alone(word, blocks, out),
     }
 }
 
 /// What a word does that reads no artifact.
-fn act_alone<B: Blocks, O: Sink>(word: Word, blocks: &mut B, out: &mut O) -> AbAct
+fn act_alone<B: Blocks, O: Sink>(word: ModuleWord, blocks: &mut B, out: &mut O) -> AbAct
     requires on { (B.means blocks.old).on ≡ true }
     requires alone { IsAlone (Some word) }
     ensures acts { (content : Content) (faults : ℕ) → ActsFor (Some word) content (record { source_faults = faults; blocks = B.means blocks.old; sink = O.means out.old }) (record { source_faults = faults; blocks = B.means blocks.new; sink = O.means out.new }) result }
 {
     match word {
-        Word::Ask(query) => match reply(query, out) {
+        ModuleWord::Ask(query) => match reply(query, out) {
             Ok(()) => AbAct::Done,
             Err(_) => AbAct::SinkFault,
         },
-        Word::State(ModState::ArtifactRollback) => ended(roll_back(blocks)),
-        Word::State(ModState::Cleanup) => ended(clean_up(blocks)),
-        Word::State(_) => AbAct::Done,
+        ModuleWord::State(ModState::ArtifactRollback) => ended(roll_back(blocks)),
+        ModuleWord::State(ModState::Cleanup) => ended(clean_up(blocks)),
+        ModuleWord::State(_) => AbAct::Done,
     }
 }
 

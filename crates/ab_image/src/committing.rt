@@ -2,8 +2,8 @@
 
 ghost use Rattle.std.specs.Prelude.{◌≡◌, ◌<◌, true, length, Some};
 ghost use Rattle.device_model.specs.declared.calls.ModState.TheVariants.{ArtifactCommit};
+ghost use Rattle.device_model.specs.declared.module_word.ModuleWord.TheVariants.{State};
 ghost use Rattle.io_model.specs.Sink.{Written};
-ghost use Rattle.ab_image.specs.declared.words.Word.TheVariants.{State};
 ghost use Rattle.ab_image.specs.Act.{ActsFor};
 ghost use Rattle.ab_image.specs.Choosing.{Chooses, choice_answer};
 

@@ -2,10 +2,10 @@
 
 ghost use Rattle.std.specs.Prelude.{◌≡◌, ◌<◌, ◌≤◌, true, length, Some, IfSome};
 ghost use Rattle.device_model.specs.declared.calls.ModState.TheVariants.{Download};
+ghost use Rattle.device_model.specs.declared.module_word.ModuleWord.TheVariants.{State};
 ghost use Rattle.device_model.specs.Disk.{IsSettled};
 ghost use Rattle.io_model.specs.Sink.{Written};
 ghost use Rattle.io_model.specs.Source.{count_of, When, IsLength, bytes_at};
-ghost use Rattle.ab_image.specs.declared.words.Word.TheVariants.{State};
 ghost use Rattle.ab_image.specs.Layout.{partition_size, other, chosen, Agree, IsBeside, Whole};
 ghost use Rattle.ab_image.specs.Act.{ActsFor, SourceEnds};
 ghost use Rattle.ab_image.specs.Taking.{Frees, Judges, Spares, Stores};

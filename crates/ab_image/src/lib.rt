@@ -16,7 +16,6 @@ mod readiness;
 mod replying;
 mod report;
 mod settling;
-mod words;
 
 pub use acting::act;
 pub use blocks::Blocks;

@@ -7,8 +7,7 @@ use Rattle.provides_map.specs.After.{artifact_name}
 use Rattle.record_codec.specs.declared.entry.Db.{Db}
 use Rattle.record_codec.specs.declared.entry.Db.TheVariants.{Empty, Full}
 use Rattle.record_codec.specs.Held.{held, marked}
-use Rattle.flow_table.specs.declared.position.State.{State}
-use Rattle.flow_table.specs.declared.position.State.TheVariants as at
+use Rattle.flow_table.specs.Names.{state_name, outcome_name}
 use Rattle.flow_table.specs.declared.position.Outcome.{Outcome}
 use Rattle.flow_table.specs.declared.position.Outcome.TheVariants as outcome
 use Rattle.client_words.specs.declared.command.Command.{Command}
@@ -17,28 +16,6 @@ use Rattle.client_words.specs.declared.command.UsageFault.{UsageFault}
 use Rattle.client_words.specs.declared.command.UsageFault.TheVariants as usage
 use Rattle.client_top.specs.declared.status.NotNow.{NotNow}
 use Rattle.client_top.specs.declared.status.NotNow.TheVariants as not_now
-
-unfoldable pub state_name : State → List ℕ
-state_name at.Idle = codes "Idle"
-state_name at.Download = codes "Download"
-state_name at.Install = codes "Install"
-state_name at.Reboot = codes "Reboot"
-state_name at.VerifyReboot = codes "VerifyReboot"
-state_name at.Commit = codes "Commit"
-state_name at.CommitLeave = codes "CommitLeave"
-state_name at.Rollback = codes "Rollback"
-state_name at.RollbackReboot = codes "RollbackReboot"
-state_name at.VerifyRollbackReboot = codes "VerifyRollbackReboot"
-state_name at.Failure = codes "Failure"
-state_name at.Cleanup = codes "Cleanup"
-state_name at.Wait = codes "Wait"
-
-unfoldable pub outcome_name : Outcome → List ℕ
-outcome_name outcome.Undecided = codes "Undecided"
-outcome_name outcome.Kept = codes "Kept"
-outcome_name outcome.Committed = codes "Committed"
-outcome_name outcome.RolledBack = codes "RolledBack"
-outcome_name outcome.Inconsistent = codes "Inconsistent"
 
 -- how a deployment ended that installed nothing
 unfoldable pub not_installed : Outcome → List ℕ

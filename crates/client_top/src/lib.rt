@@ -6,7 +6,6 @@ mod begin;
 mod call;
 mod check;
 mod laws;
-mod names;
 mod order;
 mod page;
 mod show;

@@ -10,7 +10,6 @@ ghost use Rattle.record_codec.specs.Held.{marked, held, held_of};
 ghost use Rattle.client_top.specs.Waiting.{IsAhead};
 ghost use Rattle.client_top.specs.Texts.{line, mark_if, name_line, deployment, shown};
 
-use crate::names::{outcome_name, state_name};
 use crate::page::{Page, add_line, flush};
 use client_words::{Command, UsageFault};
 use flow_table::Outcome;
@@ -184,9 +183,9 @@ fn show_deployment<O: Sink>(out: &mut O, db: &Db) -> Result<(), SinkFault>
     let mut text = Line::new();
     text.add(decimal(u64::from(entry.id)).bytes());
     text.add(b" ");
-    text.add(state_name(entry.position.state));
+    text.add(entry.position.state.name().as_bytes());
     text.add(b" ");
-    text.add(outcome_name(entry.position.outcome));
+    text.add(entry.position.outcome.name().as_bytes());
     text.add(b"\n");
     out.put(text.bytes())
 }

@@ -5,7 +5,6 @@ ghost use Rattle.io_model.specs.Sink.{Puts};
 ghost use Rattle.client_top.specs.Answers.{row_of};
 ghost use Rattle.client_top.specs.Texts.{about_words, about_now, not_installed};
 
-use crate::names::state_name;
 use crate::status::{Good, NotNow, Status};
 use client_words::UsageFault;
 use flow_table::Outcome;
@@ -30,9 +29,9 @@ fn wait(when: NotNow) -> Line
     ensures { result ≡ codes "not now " ++ about_now when ++ codes "\n" }
 {
     match when {
-        NotNow::InProgress(state) => Line::named(b"not now 1 ", state_name(state)),
-        NotNow::MustResume(state) => Line::named(b"not now 2 ", state_name(state)),
-        NotNow::NoRollback(state) => Line::named(b"not now 3 ", state_name(state)),
+        NotNow::InProgress(state) => Line::named(b"not now 1 ", state.name().as_bytes()),
+        NotNow::MustResume(state) => Line::named(b"not now 2 ", state.name().as_bytes()),
+        NotNow::NoRollback(state) => Line::named(b"not now 3 ", state.name().as_bytes()),
     }
 }
 

@@ -10,6 +10,7 @@ mod folder;
 mod log;
 mod moment;
 mod script;
+mod told;
 mod work;
 
 pub use area::AreaBytes;

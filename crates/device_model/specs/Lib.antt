@@ -3,3 +3,4 @@ pub mod Work
 pub mod State
 pub mod How
 pub mod Events
+pub mod Names

@@ -1,4 +1,4 @@
-//! The journal.
+//! The journal, and the words by which a module is called.
 
 use super::*;
 use std::test::Fail;
@@ -22,11 +22,29 @@ fn events_are_kept_in_order(rt: HostRuntime) -> Result<(), Fail> {
     assert_eq!(rt; events.room(), 0);
     assert_eq!(rt; events.push(Event::Loss), Ok(()));
     assert_eq!(rt; events.len(), 3);
+    assert_eq!(rt; events.as_slice().len(), 3);
     assert!(rt; matches!(events.at(0), Event::Start(Call::Module { payload: 0, .. })));
     assert!(rt; matches!(events.at(1), Event::End(Answer::Exit(3))));
     assert!(rt; matches!(events.at(2), Event::Loss));
     events.clear();
     assert!(rt; events.is_empty());
     assert_eq!(rt; events.room(), 3);
+    Ok(())
+}
+
+#[test]
+fn a_word_is_read_whole(rt: HostRuntime) -> Result<(), Fail> {
+    let rollback = ModuleWord::State(ModState::ArtifactRollback);
+    assert_eq!(rt; ModuleWord::read(b"ArtifactRollback"), Some(rollback));
+    let asked = ModuleWord::Ask(Query::NeedsArtifactReboot);
+    assert_eq!(rt; ModuleWord::read(b"NeedsArtifactReboot"), Some(asked));
+    for text in [
+        b"".as_slice(),
+        b"ArtifactRoll",
+        b"ArtifactRollbacks",
+        b"download",
+    ] {
+        assert_eq!(rt; ModuleWord::read(text), None);
+    }
     Ok(())
 }

@@ -64,10 +64,8 @@ fn not_started(alloc: Global, fault: HostFault) -> io::Result<String> {
 
 /// The end of a child as a line of a journal.
 fn ended(alloc: Global, answer: Answer) -> io::Result<String> {
-    let Ok(line) = line_of(alloc, &Event::End(answer)) else {
-        return Err(io::Error::from(io::ErrorKind::OutOfMemory));
-    };
-    Ok(String::from_utf8_lossy(alloc, &line)?)
+    let line = line_of(&Event::End(answer));
+    Ok(String::from_utf8_lossy(alloc, line.bytes())?)
 }
 
 /// What failed first. A path is told from the row's folder on.

@@ -2,7 +2,7 @@
 
 ghost use Rattle.std.specs.Prelude.{◌<◌, ◌≤◌, IfOk, IfSome};
 
-use device_model::{ModState, Part, Query};
+use device_model::{ModState, ModuleWord, Part, Query};
 use std::alloc::Global;
 use std::io::{self, ErrorKind};
 use upd_text::{Name, read_decimal};
@@ -61,37 +61,20 @@ pub fn part(text: &str) -> io::Result<Part> {
     Ok(Part::Tree(payload(text)?))
 }
 
-const STATES: &[ModState] = &[
-    ModState::Download,
-    ModState::ArtifactInstall,
-    ModState::ArtifactReboot,
-    ModState::ArtifactVerifyReboot,
-    ModState::ArtifactCommit,
-    ModState::ArtifactRollback,
-    ModState::ArtifactRollbackReboot,
-    ModState::ArtifactVerifyRollbackReboot,
-    ModState::ArtifactFailure,
-    ModState::Cleanup,
-];
-
 /// The state that a module's word names.
 pub fn state(text: &str) -> io::Result<ModState> {
-    for state in STATES {
-        if event_text::module_word(*state) == text.as_bytes() {
-            return Ok(*state);
-        }
+    match ModuleWord::read(text.as_bytes()) {
+        Some(ModuleWord::State(state)) => Ok(state),
+        _ => Err(wrong()),
     }
-    Err(wrong())
 }
 
 /// The question that a module's word names.
 pub fn query(text: &str) -> io::Result<Query> {
-    for query in [Query::SupportsRollback, Query::NeedsArtifactReboot] {
-        if event_text::query_word(query) == text.as_bytes() {
-            return Ok(query);
-        }
+    match ModuleWord::read(text.as_bytes()) {
+        Some(ModuleWord::Ask(query)) => Ok(query),
+        _ => Err(wrong()),
     }
-    Err(wrong())
 }
 
 fn digit(sign: u8) -> Option<u8>

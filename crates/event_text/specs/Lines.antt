@@ -7,31 +7,12 @@ use Rattle.device_model.specs.declared.calls.Call.{Call}
 use Rattle.device_model.specs.declared.calls.Call.TheVariants.{Module, Ask, Script, SystemReboot}
 use Rattle.device_model.specs.declared.calls.Event.{Event}
 use Rattle.device_model.specs.declared.calls.Event.TheVariants.{Start, End, Pause, Loss}
-use Rattle.device_model.specs.declared.calls.ModState.{ModState}
-use Rattle.device_model.specs.declared.calls.ModState.TheVariants as mod_state
-use Rattle.device_model.specs.declared.calls.Query.{Query}
-use Rattle.device_model.specs.declared.calls.Query.TheVariants.{SupportsRollback, NeedsArtifactReboot}
-
-abbrev pub module_word : ModState → List ℕ
-module_word mod_state.Download = codes "Download"
-module_word mod_state.ArtifactInstall = codes "ArtifactInstall"
-module_word mod_state.ArtifactReboot = codes "ArtifactReboot"
-module_word mod_state.ArtifactVerifyReboot = codes "ArtifactVerifyReboot"
-module_word mod_state.ArtifactCommit = codes "ArtifactCommit"
-module_word mod_state.ArtifactRollback = codes "ArtifactRollback"
-module_word mod_state.ArtifactRollbackReboot = codes "ArtifactRollbackReboot"
-module_word mod_state.ArtifactVerifyRollbackReboot = codes "ArtifactVerifyRollbackReboot"
-module_word mod_state.ArtifactFailure = codes "ArtifactFailure"
-module_word mod_state.Cleanup = codes "Cleanup"
-
-abbrev pub query_word : Query → List ℕ
-query_word SupportsRollback = codes "SupportsRollback"
-query_word NeedsArtifactReboot = codes "NeedsArtifactReboot"
+use Rattle.device_model.specs.Names.{mod_state_name, query_name}
 
 -- the number of the payload stands in a call, its type doesn't
 abbrev pub call_text : Call → List ℕ
-call_text (Module payload kind state) = codes "module " ++ (decimal payload ++ (codes " " ++ module_word state))
-call_text (Ask payload kind query) = codes "ask " ++ (decimal payload ++ (codes " " ++ query_word query))
+call_text (Module payload kind state) = codes "module " ++ (decimal payload ++ (codes " " ++ mod_state_name state))
+call_text (Ask payload kind query) = codes "ask " ++ (decimal payload ++ (codes " " ++ query_name query))
 call_text (Script name) = codes "run " ++ name
 call_text SystemReboot = codes "reboot"
 

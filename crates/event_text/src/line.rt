@@ -1,90 +1,101 @@
 //! A line of text for each event.
 
-ghost use Rattle.std.specs.Prelude.{◌≡◌, ◌++◌, IfOk, codes, decimal};
+ghost use Rattle.std.specs.Prelude.{◌≡◌, ◌+◌, ◌*◌, ◌<◌, ◌≤◌, ◌++◌, IfOk, length, slice_index, codes, decimal};
 ghost use Rattle.std.specs.List.{flat_map};
-ghost use Rattle.event_text.specs.Lines.{call_text, answer_text, event_text, reply_text, line};
+ghost use Rattle.hex.specs.Hex.{lower_digits, encode_lower};
+ghost use Rattle.event_text.specs.Lines.{call_text, answer_text, reply_text, line};
 
-use crate::words::{module_word, query_word};
 use device_model::{Answer, Call, Event, EventList};
+use io_model::Line;
 use std::alloc::Global;
 use upd_text::{NoMemory, Text32, decimal};
 
-/// Two texts, one behind the other.
-fn pair(alloc: Global, first: &[u8], second: &[u8]) -> Result<Vec<u8>, NoMemory>
-    ensures { IfOk result (λ text. text.items ≡ first.now ++ second.now) }
+/// The digit of a number below 16.
+fn digit(n: u8) -> u8
+    requires { n < 16 }
+    ensures { result ≡ slice_index lower_digits n }
 {
-    let mut text = Vec::new(alloc);
-    text.extend_from_slice(first)?;
-    text.extend_from_slice(second)?;
-    Ok(text)
+    b"0123456789abcdef"[n as usize]
+}
+
+/// Two digits for each byte.
+fn add_digits(line: &mut Line, bytes: &[u8])
+    requires { length line.old + 2 * length bytes.now ≤ 1000 }
+    ensures text { line.new ≡ line.old ++ encode_lower bytes.now }
+    ensures long { length line.new ≡ length line.old + 2 * length bytes.now }
+{
+    for byte in bytes {
+        line.add(&[digit(*byte / 16), digit(*byte % 16)]);
+    }
 }
 
 /// A word, a number, a space and a word.
-fn numbered(alloc: Global, word: &[u8], number: u8, last: &[u8]) -> Result<Vec<u8>, NoMemory>
-    ensures { IfOk result (λ text. text.items ≡ word.now ++ (decimal number ++ (codes " " ++ last.now))) }
+fn numbered(word: &[u8], number: u8, last: &[u8]) -> Line
+    requires word { length word.now ≤ 32 }
+    requires last { length last.now ≤ 64 }
+    ensures { result ≡ word.now ++ decimal number ++ codes " " ++ last.now ++ codes "\n" }
 {
-    let behind = pair(alloc, b" ", last)?;
-    let digits = decimal(number as u64);
-    let rest = pair(alloc, digits.bytes(), &behind)?;
-    pair(alloc, word, &rest)
+    let digits = decimal(u64::from(number));
+    let mut line = Line::new();
+    line.add(word);
+    line.add(digits.bytes());
+    line.add(b" ");
+    line.add(last);
+    line.add(b"\n");
+    line
 }
 
-fn call_text(alloc: Global, call: &Call) -> Result<Vec<u8>, NoMemory>
-    ensures { IfOk result (λ text. text.items ≡ call_text call.now) }
+fn call_line(call: &Call) -> Line
+    ensures { result ≡ call_text call.now ++ codes "\n" }
 {
     match call {
         Call::Module { payload, state, .. } => {
-            numbered(alloc, b"module ", *payload, module_word(*state))
+            numbered(b"module ", *payload, state.name().as_bytes())
         }
-        Call::Ask { payload, query, .. } => {
-            numbered(alloc, b"ask ", *payload, query_word(*query))
-        }
-        Call::Script(name) => pair(alloc, b"run ", name.bytes()),
-        Call::SystemReboot => pair(alloc, b"reboot", b""),
+        Call::Ask { payload, query, .. } => { numbered(b"ask ", *payload, query.name().as_bytes()) }
+        Call::Script(name) => Line::named(b"run ", name.bytes()),
+        Call::SystemReboot => Line::named(b"reboot", b""),
     }
 }
 
-/// Two digits for each byte, and a dash where there is none.
-fn reply_text(alloc: Global, text: &Text32) -> Result<Vec<u8>, NoMemory>
-    ensures { IfOk result (λ told. told.items ≡ reply_text text.now) }
+/// Two digits for each byte of the text, and a dash where there is none.
+fn reply_line(code: u8, text: &Text32) -> Line
+    ensures { result ≡ codes "reply " ++ decimal code ++ codes " " ++ reply_text text.now ++ codes "\n" }
 {
-    if text.bytes().is_empty() {
-        return pair(alloc, b"-", b"");
+    let bytes = text.bytes();
+    if bytes.is_empty() {
+        return numbered(b"reply ", code, b"-");
     }
-    let digits = hex::encode(alloc, text.bytes())?;
-    pair(alloc, digits.as_bytes(), b"")
+    let digits = decimal(u64::from(code));
+    let mut line = Line::new();
+    line.add(b"reply ");
+    line.add(digits.bytes());
+    line.add(b" ");
+    add_digits(&mut line, bytes);
+    line.add(b"\n");
+    line
 }
 
-fn answer_text(alloc: Global, answer: &Answer) -> Result<Vec<u8>, NoMemory>
-    ensures { IfOk result (λ text. text.items ≡ answer_text answer.now) }
+fn answer_line(answer: &Answer) -> Line
+    ensures { result ≡ answer_text answer.now ++ codes "\n" }
 {
     match answer {
-        Answer::Exit(code) => pair(alloc, b"exit ", decimal(*code as u64).bytes()),
-        Answer::Reply(code, text) => {
-            let told = reply_text(alloc, text)?;
-            numbered(alloc, b"reply ", *code, &told)
-        }
-        Answer::NotStarted => pair(alloc, b"not-started", b""),
+        Answer::Exit(code) => Line::numbered(b"exit ", u64::from(*code)),
+        Answer::Reply(code, text) => reply_line(*code, text),
+        Answer::NotStarted => Line::named(b"not-started", b""),
     }
 }
 
-fn event_text(alloc: Global, event: &Event) -> Result<Vec<u8>, NoMemory>
-    ensures { IfOk result (λ text. text.items ≡ event_text event.now) }
+/// The line of an event. It takes no memory.
+pub fn line_of(event: &Event) -> Line
+    ensures { result ≡ line event.now }
 {
     match event {
-        Event::Start(call) => call_text(alloc, call),
-        Event::End(answer) => answer_text(alloc, answer),
-        Event::Pause(seconds) => pair(alloc, b"pause ", decimal(*seconds as u64).bytes()),
-        Event::Loss => pair(alloc, b"loss", b""),
+        Event::Start(call) => call_line(call),
+        Event::End(answer) => answer_line(answer),
+        Event::Pause(seconds) => Line::numbered(b"pause ", u64::from(*seconds)),
+        Event::Loss => Line::named(b"loss", b""),
     }
-}
-
-/// The line of an event.
-pub fn line_of(alloc: Global, event: &Event) -> Result<Vec<u8>, NoMemory>
-    ensures { IfOk result (λ text. text.items ≡ line event.now) }
-{
-    let text = event_text(alloc, event)?;
-    pair(alloc, &text, b"\n")
 }
 
 /// The lines of all events of a journal.
@@ -92,9 +103,8 @@ pub fn spelled(alloc: Global, journal: &EventList) -> Result<Vec<u8>, NoMemory>
     ensures { IfOk result (λ text. text.items ≡ flat_map line journal.now.events) }
 {
     let mut text = Vec::new(alloc);
-    for i in 0..journal.len() {
-        let told = line_of(alloc, journal.at(i))?;
-        text.extend_from_slice(&told)?;
+    for event in journal.as_slice() {
+        text.extend_from_slice(line_of(event).bytes())?;
     }
     Ok(text)
 }

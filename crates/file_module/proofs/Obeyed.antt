@@ -1,14 +1,14 @@
 -- What a word does, from what its steps do.
 use Rattle.std.proofs.Common.{◌≡◌, inl, inr, ⊎_elim, ◌⊎◌, ℕ, zero, suc, ◌<◌, ◌≤◌, get_or, take, true, false, List, [], ◌∷◌, length, refl, sym, ◌∙◌, ap, subst, arith}
 use Rattle.std.specs.Prelude.{Option, Some, None, Ok, Err, option_map}
+use Rattle.device_model.specs.declared.calls.ModState.TheVariants.{Download, ArtifactInstall, ArtifactRollback}
+use Rattle.device_model.specs.declared.module_word.ModuleWord.TheVariants.{State}
 use Rattle.io_model.specs.Source.{Content, bytes_at}
 use Rattle.io_model.specs.Source.Content.{Told, Untold}
 use Rattle.file_module.specs.declared.answer.FileAct.{FileAct}
 use Rattle.file_module.specs.declared.answer.FileAct.TheVariants as act
 use Rattle.file_module.specs.declared.answer.Stop.{Stop}
 use Rattle.file_module.specs.declared.answer.Stop.TheVariants as stop
-use Rattle.file_module.specs.declared.words.Word.{Word}
-use Rattle.file_module.specs.declared.words.Word.TheVariants.{Download, ArtifactInstall, ArtifactRollback}
 use Rattle.file_module.specs.Contents.{Contents, InContent, IsThere, WhenTold}
 use Rattle.file_module.specs.Calls.{Gives}
 use Rattle.file_module.specs.Copying.{rest}
@@ -66,14 +66,14 @@ counts_stopped files stop.DiskFault m on h = absurd h
 counts_stopped files stop.Off m on h = absurd h
 counts_stopped files stop.BadSaved m on h = absurd h
 
-download_may : (files : Content) (s : Stop) → Finds files (Err s) → may_answer Download (stopped_by s) ≡ true
+download_may : (files : Content) (s : Stop) → Finds files (Err s) → may_answer (State Download) (stopped_by s) ≡ true
 download_may files (stop.BadPayload k) h = refl
 download_may files stop.SourceFault h = refl
 download_may files stop.DiskFault h = absurd h
 download_may files stop.Off h = absurd h
 download_may files stop.BadSaved h = absurd h
 
-install_may : (files : Content) (s : Stop) → Finds files (Err s) → may_answer ArtifactInstall (stopped_by s) ≡ true
+install_may : (files : Content) (s : Stop) → Finds files (Err s) → may_answer (State ArtifactInstall) (stopped_by s) ≡ true
 install_may files (stop.BadPayload k) h = refl
 install_may files stop.SourceFault h = refl
 install_may files stop.DiskFault h = absurd h
@@ -98,14 +98,14 @@ of_writing stop.DiskFault h = tt
 of_writing stop.Off h = tt
 of_writing stop.BadSaved h = absurd h
 
-may_write : (s : Stop) → IsOfWriting s → may_answer ArtifactInstall (stopped_by s) ≡ true
+may_write : (s : Stop) → IsOfWriting s → may_answer (State ArtifactInstall) (stopped_by s) ≡ true
 may_write (stop.BadPayload k) h = absurd h
 may_write stop.SourceFault h = refl
 may_write stop.DiskFault h = refl
 may_write stop.Off h = refl
 may_write stop.BadSaved h = absurd h
 
-may_clear : (s : Stop) → IsOfPlace s → may_answer Download (stopped_by s) ≡ true
+may_clear : (s : Stop) → IsOfPlace s → may_answer (State Download) (stopped_by s) ≡ true
 may_clear (stop.BadPayload k) h = absurd h
 may_clear stop.SourceFault h = absurd h
 may_clear stop.DiskFault h = refl
@@ -211,7 +211,7 @@ installs_cut files i s old new h regular cause counts sets = record {
 }
 
 -- it saved, and then replaced the target or stopped there
-installs_replacing : (files : Content) (i : ℕ) (a : FileAct) (old mid new : Contents) → Finds files (Ok i) → WhenTold old (old.regular ≡ true) → may_answer ArtifactInstall a ≡ true → NoNumber a → Counts act.Done old mid → WhenTold old (SetsSaved act.Done (saved_after old.saved old.target) old mid) → Counts a mid new → WhenTold mid (Replaces (IsPayload files) a mid new) → Installs files a old new
+installs_replacing : (files : Content) (i : ℕ) (a : FileAct) (old mid new : Contents) → Finds files (Ok i) → WhenTold old (old.regular ≡ true) → may_answer (State ArtifactInstall) a ≡ true → NoNumber a → Counts act.Done old mid → WhenTold old (SetsSaved act.Done (saved_after old.saved old.target) old mid) → Counts a mid new → WhenTold mid (Replaces (IsPayload files) a mid new) → Installs files a old new
 installs_replacing files i a old mid new h regular may none first sets then r = record {
   irregular = λ told e. absurd (true_false (sym (regular told) ∙ e));
   counts = counts_then a old mid new first then;
@@ -232,7 +232,7 @@ installs_stopped files i s old mid new h regular cause first sets then r = insta
 
 -- ---- ArtifactRollback
 
-may_roll : (s : Stop) → IsOfPlace s → may_answer ArtifactRollback (stopped_by s) ≡ true
+may_roll : (s : Stop) → IsOfPlace s → may_answer (State ArtifactRollback) (stopped_by s) ≡ true
 may_roll (stop.BadPayload k) h = absurd h
 may_roll stop.SourceFault h = absurd h
 may_roll stop.DiskFault h = refl
@@ -411,8 +411,3 @@ head_read (Some []) into h long g = absurd h
 head_read (Some (b ∷ bytes)) into h long g =
     let first : into ≡ take 1 (b ∷ bytes) = g ∙ ap (λ (n : ℕ). take n (b ∷ bytes)) long in
     ap (λ (l : List ℕ). Some (get_or l 0 0)) first
-
--- ---- all words
-
-none_some : (word : Word) → Some word ≡ None → ⊥
-none_some word e = cc

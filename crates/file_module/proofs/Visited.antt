@@ -1,10 +1,11 @@
 -- What calls keep, one after the other.
 use Rattle.std.proofs.Common.{◌≡◌, inl, inr, ⊎_elim, ℕ, true, List, [], ◌∷◌, refl, sym, ◌∙◌, subst}
 use Rattle.std.specs.Prelude.{Option, Some, None}
+use Rattle.device_model.specs.declared.calls.ModState.TheVariants.{Download, ArtifactInstall, ArtifactRollback, Cleanup}
+use Rattle.device_model.specs.declared.module_word.ModuleWord.{ModuleWord}
+use Rattle.device_model.specs.declared.module_word.ModuleWord.TheVariants.{State, Ask}
 use Rattle.io_model.specs.Source.{Content}
 use Rattle.file_module.specs.declared.answer.FileAct.{FileAct}
-use Rattle.file_module.specs.declared.words.Word.{Word}
-use Rattle.file_module.specs.declared.words.Word.TheVariants.{SupportsRollback, NeedsArtifactReboot, Download, ArtifactInstall, ArtifactRollback, Cleanup, Other}
 use Rattle.file_module.specs.Contents.{Contents}
 use Rattle.file_module.specs.Payload.{IsPayload}
 use Rattle.file_module.specs.Saved.{Kept, IsNew}
@@ -15,15 +16,14 @@ kept_same : (is_new : List ℕ → Type 0) (t : Option (List ℕ)) (old new : Co
 kept_same is_new t old new s (inl h) = inl (s.saved ∙ h.0, s.target ∙ h.1)
 kept_same is_new t old new s (inr h) = inr (s.saved ∙ h.0, ⊎_elim (λ (was : old.target ≡ t). inl (s.target ∙ was)) (λ (was : IsNew is_new old.target). inr (subst (IsNew is_new) (sym s.target) was)) h.1)
 
-kept_by : (files : Content) (asked : Option Word) (a : FileAct) (t : Option (List ℕ)) (old new : Contents) → old.told ≡ true → IsBetween asked → FileActs asked files a old new → Kept (IsPayload files) t old → Kept (IsPayload files) t new
+kept_by : (files : Content) (asked : Option ModuleWord) (a : FileAct) (t : Option (List ℕ)) (old new : Contents) → old.told ≡ true → IsBetween asked → FileActs asked files a old new → Kept (IsPayload files) t old → Kept (IsPayload files) t new
 kept_by files None a t old new told between h kept = subst (Kept (IsPayload files) t) (sym (h.unasked refl)) kept
-kept_by files (Some SupportsRollback) a t old new told between h kept = subst (Kept (IsPayload files) t) (sym (h.idle SupportsRollback refl refl)) kept
-kept_by files (Some NeedsArtifactReboot) a t old new told between h kept = subst (Kept (IsPayload files) t) (sym (h.idle NeedsArtifactReboot refl refl)) kept
-kept_by files (Some Download) a t old new told between h kept = absurd between
-kept_by files (Some ArtifactInstall) a t old new told between h kept = (h.installs refl).keeps told t kept
-kept_by files (Some ArtifactRollback) a t old new told between h kept = (h.rolls_back refl).keeps told files t kept
-kept_by files (Some Cleanup) a t old new told between h kept = absurd between
-kept_by files (Some Other) a t old new told between h kept = subst (Kept (IsPayload files) t) (sym (h.idle Other refl refl)) kept
+kept_by files (Some (Ask query)) a t old new told between h kept = subst (Kept (IsPayload files) t) (sym (h.idle (Ask query) refl refl)) kept
+kept_by files (Some (State Download)) a t old new told between h kept = absurd between
+kept_by files (Some (State ArtifactInstall)) a t old new told between h kept = (h.installs refl).keeps told t kept
+kept_by files (Some (State ArtifactRollback)) a t old new told between h kept = (h.rolls_back refl).keeps told files t kept
+kept_by files (Some (State Cleanup)) a t old new told between h kept = absurd between
+kept_by files (Some (State state)) a t old new told between h kept = subst (Kept (IsPayload files) t) (sym (h.idle (State state) refl refl)) kept
 
 pub always_kept : AlwaysKept
 always_kept files t old new [] told kept same = kept_same (IsPayload files) t old new same kept

@@ -1,11 +1,14 @@
 -- What each word does, whatever the answer is.
 use Rattle.std.specs.Prelude.{◌≡◌, ◌≢◌, ◌⊎◌, ◌↔◌, ℕ, Bool, true, false, List, length, Option, Some, None}
+use Rattle.device_model.specs.declared.calls.ModState.{ModState}
+use Rattle.device_model.specs.declared.calls.ModState.TheVariants.{Download, ArtifactInstall, ArtifactRollback, Cleanup}
+use Rattle.device_model.specs.declared.calls.Query.{Query}
+use Rattle.device_model.specs.declared.module_word.ModuleWord.{ModuleWord}
+use Rattle.device_model.specs.declared.module_word.ModuleWord.TheVariants.{State, Ask}
 use Rattle.io_model.specs.Source.{Content}
 use Rattle.io_model.specs.Sink.{Written, Writes, WritesFront}
 use Rattle.file_module.specs.declared.answer.FileAct.{FileAct}
 use Rattle.file_module.specs.declared.answer.FileAct.TheVariants.{Done, Usage, BadPayload, DiskFault, SourceFault, SinkFault, Off, BadSaved}
-use Rattle.file_module.specs.declared.words.Word.{Word}
-use Rattle.file_module.specs.declared.words.Word.TheVariants.{SupportsRollback, NeedsArtifactReboot, Download, ArtifactInstall, ArtifactRollback, Cleanup, Other}
 use Rattle.file_module.specs.Contents.{Contents, IsThere, WhenTold}
 use Rattle.file_module.specs.Answers.{Counts, Untouched}
 use Rattle.file_module.specs.Payload.{When, IsPayload, HasPayloads, payloads}
@@ -14,44 +17,28 @@ use Rattle.file_module.specs.Words.{reply_to}
 
 -- ---- which answers may come after a word
 
-abbrev pub takes_payload : Word → Bool
-takes_payload SupportsRollback = false
-takes_payload NeedsArtifactReboot = false
-takes_payload Download = true
-takes_payload ArtifactInstall = true
-takes_payload ArtifactRollback = false
-takes_payload Cleanup = false
-takes_payload Other = false
+abbrev pub takes_payload : ModuleWord → Bool
+takes_payload (State Download) = true
+takes_payload (State ArtifactInstall) = true
+takes_payload word = false
 
-abbrev pub is_query : Word → Bool
-is_query SupportsRollback = true
-is_query NeedsArtifactReboot = true
-is_query Download = false
-is_query ArtifactInstall = false
-is_query ArtifactRollback = false
-is_query Cleanup = false
-is_query Other = false
+abbrev pub is_query : ModuleWord → Bool
+is_query (Ask query) = true
+is_query (State state) = false
 
 -- the word has work to do at the place
-abbrev pub uses_place : Word → Bool
-uses_place SupportsRollback = false
-uses_place NeedsArtifactReboot = false
-uses_place Download = true
-uses_place ArtifactInstall = true
-uses_place ArtifactRollback = true
-uses_place Cleanup = true
-uses_place Other = false
+abbrev pub uses_place : ModuleWord → Bool
+uses_place (State Download) = true
+uses_place (State ArtifactInstall) = true
+uses_place (State ArtifactRollback) = true
+uses_place (State Cleanup) = true
+uses_place word = false
 
-abbrev pub is_rollback : Word → Bool
-is_rollback SupportsRollback = false
-is_rollback NeedsArtifactReboot = false
-is_rollback Download = false
-is_rollback ArtifactInstall = false
-is_rollback ArtifactRollback = true
-is_rollback Cleanup = false
-is_rollback Other = false
+abbrev pub is_rollback : ModuleWord → Bool
+is_rollback (State ArtifactRollback) = true
+is_rollback word = false
 
-abbrev pub may_answer : Word → FileAct → Bool
+abbrev pub may_answer : ModuleWord → FileAct → Bool
 may_answer word Done = true
 may_answer word Usage = false
 may_answer word (BadPayload n) = takes_payload word
@@ -84,7 +71,7 @@ pub record Clears (act : FileAct) (old new : Contents) : Type 0 where
 
 pub record Downloads (files : Content) (act : FileAct) (old new : Contents) : Type 0 where
   pub clears : Clears act old new
-  pub answers : may_answer Download act ≡ true
+  pub answers : may_answer (State Download) act ≡ true
   pub kept : act ≡ Done → Kept (IsPayload files) old.target new
   pub bad_payload : BadPayloadIs files act old new
   pub needs_one : NeedsOne files act
@@ -92,7 +79,7 @@ pub record Downloads (files : Content) (act : FileAct) (old new : Contents) : Ty
 
 pub record Installs (files : Content) (act : FileAct) (old new : Contents) : Type 0 where
   pub counts : Counts act old new
-  pub answers : may_answer ArtifactInstall act ≡ true
+  pub answers : may_answer (State ArtifactInstall) act ≡ true
   pub bad_payload : BadPayloadIs files act old new
   pub needs_one : NeedsOne files act
   pub keeps : WhenTold old ((t : Option (List ℕ)) → Kept (IsPayload files) t old → Kept (IsPayload files) t new)
@@ -103,7 +90,7 @@ pub record Installs (files : Content) (act : FileAct) (old new : Contents) : Typ
 
 pub record RollsBack (act : FileAct) (old new : Contents) : Type 0 where
   pub counts : Counts act old new
-  pub answers : may_answer ArtifactRollback act ≡ true
+  pub answers : may_answer (State ArtifactRollback) act ≡ true
   pub saved : new.saved ≡ old.saved
   pub target : WhenTold old ((new.target ≡ old.target) ⊎ (new.target ≡ rolled_back old.saved old.target))
   pub done : WhenTold old (act ≡ Done → new.target ≡ rolled_back old.saved old.target)
@@ -118,23 +105,23 @@ pub record RollsBack (act : FileAct) (old new : Contents) : Type 0 where
 -- ---- the contract of the module
 
 -- What the module answers to what it is asked, and what that leaves of the place.
-pub record FileActs (asked : Option Word) (files : Content) (act : FileAct) (old new : Contents) : Type 0 where
+pub record FileActs (asked : Option ModuleWord) (files : Content) (act : FileAct) (old new : Contents) : Type 0 where
   pub usage : (act ≡ Usage) ↔ (asked ≡ None)
   pub unasked : asked ≡ None → new ≡ old
   pub counts : Counts act old new
-  pub answers : (word : Word) → asked ≡ Some word → may_answer word act ≡ true
-  pub downloads : asked ≡ Some Download → Downloads files act old new
-  pub installs : asked ≡ Some ArtifactInstall → Installs files act old new
-  pub rolls_back : asked ≡ Some ArtifactRollback → RollsBack act old new
-  pub cleans_up : asked ≡ Some Cleanup → Clears act old new
-  pub idle : (word : Word) → asked ≡ Some word → uses_place word ≡ false → new ≡ old
+  pub answers : (word : ModuleWord) → asked ≡ Some word → may_answer word act ≡ true
+  pub downloads : asked ≡ Some (State Download) → Downloads files act old new
+  pub installs : asked ≡ Some (State ArtifactInstall) → Installs files act old new
+  pub rolls_back : asked ≡ Some (State ArtifactRollback) → RollsBack act old new
+  pub cleans_up : asked ≡ Some (State Cleanup) → Clears act old new
+  pub idle : (word : ModuleWord) → asked ≡ Some word → uses_place word ≡ false → new ≡ old
 
 -- what it writes: the reply to a query, or a front of it where the sink fails, and nothing else
-pub record Says (asked : Option Word) (act : FileAct) (old new : Written) : Type 0 where
-  pub reply : (word : Word) → asked ≡ Some word → is_query word ≡ true → act ≡ Done → Writes old (reply_to word) new
-  pub silent : (word : Word) → asked ≡ Some word → is_query word ≡ false → new ≡ old
+pub record Says (asked : Option ModuleWord) (act : FileAct) (old new : Written) : Type 0 where
+  pub reply : (query : Query) → asked ≡ Some (Ask query) → act ≡ Done → Writes old (reply_to query) new
+  pub silent : (state : ModState) → asked ≡ Some (State state) → new ≡ old
   pub unasked : asked ≡ None → new ≡ old
-  pub front : (word : Word) → asked ≡ Some word → is_query word ≡ true → act ≡ SinkFault → WritesFront old (reply_to word) new
+  pub front : (query : Query) → asked ≡ Some (Ask query) → act ≡ SinkFault → WritesFront old (reply_to query) new
 
 -- how a query ends
 abbrev pub IsSaid : FileAct → Type 0

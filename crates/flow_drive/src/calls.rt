@@ -9,9 +9,9 @@ ghost use Rattle.flow_drive.specs.Ends.{EndsState};
 
 use crate::payloads::{MODULE_EVENTS, StateEnd, ask, is_failed, run_main};
 use device_model::{Device, STATE_EVENTS};
-use flow_table::{Heard, Position};
+use flow_table::{Heard, MOST_KINDS, Position};
 use flow_words::{Mode, Row, StageRun, row_at};
-use record_codec::{Entry, MOST_KINDS};
+use record_codec::Entry;
 use script_names::{Action, DueNames, Place, ScriptList, Site, Stage, due};
 use script_runs::{RunEnd, run_due};
 

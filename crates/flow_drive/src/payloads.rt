@@ -9,9 +9,8 @@ ghost use Rattle.script_runs.specs.Ends.{EndsRun};
 ghost use Rattle.flow_drive.specs.Ends.{EndsState};
 
 use device_model::{Asked, Call, Device, ModState, Query, Ran};
-use flow_table::{Heard, Reboot, read_needs, read_supports};
+use flow_table::{Heard, MOST_KINDS, Reboot, read_needs, read_supports};
 use flow_words::{Child, Main, MainMode};
-use record_codec::MOST_KINDS;
 use script_runs::RunEnd;
 use upd_text::{KindList, Name, Text32};
 

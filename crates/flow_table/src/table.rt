@@ -43,6 +43,9 @@ pub enum Opening {
 /// The states that a deployment may enter.
 pub const LIMIT: u8 = 28;
 
+/// The payload types that a deployment may have; it has at least one.
+pub const MOST_KINDS: u8 = 8;
+
 /// Where a deployment begins.
 pub fn fresh() -> Position
     ensures { result ≡ fresh_position }

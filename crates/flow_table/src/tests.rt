@@ -1,3 +1,4 @@
+mod names;
 mod openings;
 mod positions;
 mod replies;

@@ -1,7 +1,12 @@
 //! Programs that the device starts.
 
+ghost use Rattle.std.specs.Prelude.{◌≡◌, IfOk, MatchOption, Some, [], ◌∷◌};
+ghost use Rattle.std.specs.Process.{command_program, command_args, command_dir};
+ghost use Rattle.device_model.specs.Names.{module_name};
+
 use crate::failure::{Failure, named};
 use crate::reply::Reply;
+use device_model::ModuleWord;
 use std::alloc::Global;
 use std::fs::OpenFile;
 use std::os::unix::fs::FileExt;
@@ -36,6 +41,39 @@ fn code_of(status: ExitStatus) -> u8 {
     }
 }
 
+impl<'a> Program<'a> {
+    /// A module with its words: the name of what it is called for, and the absolute path of its work folder, in which it runs.
+    pub fn module(path: &'a str, word: ModuleWord, tree: &'a str) -> Program<'a>
+        ensures word { result.first.now ≡ module_name word }
+        ensures folder { result.folder.now ≡ tree.now }
+        ensures second { MatchOption result.second ⊥ (λ second. second.now ≡ tree.now) }
+    {
+        Program {
+            path,
+            first: word.name(),
+            second: Some(tree),
+            folder: tree,
+        }
+    }
+
+    /// The command that starts it, with its words as arguments.
+    fn command(self, alloc: Global) -> io::Result<Command<Global>>
+        ensures words { IfOk result (λ command. MatchOption self.entry.second
+            (command_args command ≡ self.entry.first.now ∷ [])
+            (λ second. command_args command ≡ self.entry.first.now ∷ second.now ∷ [])) }
+        ensures program { IfOk result (λ command. command_program command ≡ self.entry.path.now) }
+        ensures folder { IfOk result (λ command. command_dir command ≡ Some self.entry.folder.now) }
+    {
+        let mut command = Command::new(alloc, self.path)?;
+        command.arg(self.first)?;
+        if let Some(second) = self.second {
+            command.arg(second)?;
+        }
+        command.current_dir(self.folder)?;
+        Ok(command)
+    }
+}
+
 /// Starts a program. An error says that it was not started. It has nothing to read, and its standard error is the client's.
 fn spawned<R: Processes>(
     rt: &R,
@@ -43,12 +81,7 @@ fn spawned<R: Processes>(
     program: Program<'_>,
     out: Stdio,
 ) -> io::Result<Child<R::Started>> {
-    let mut command = Command::new(alloc, program.path)?;
-    command.arg(program.first)?;
-    if let Some(second) = program.second {
-        command.arg(second)?;
-    }
-    command.current_dir(program.folder)?;
+    let mut command = program.command(alloc)?;
     command.stdin(Stdio::null()).stdout(out).spawn(rt)
 }
 

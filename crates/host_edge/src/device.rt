@@ -14,7 +14,8 @@ use crate::paths::Paths;
 use crate::site::site_of;
 use crate::work::{self, Tail};
 use device_model::{
-    Answer, Asked, Call, Device, Down, Event, EventList, ModState, Off, Part, Query, ROOM, Ran,
+    Answer, Asked, Call, Device, Down, Event, EventList, ModState, ModuleWord, Off, Part, Query,
+    ROOM, Ran, Told,
 };
 use script_names::Site;
 use std::alloc::Global;
@@ -46,28 +47,6 @@ fn note(journal: &mut EventList, event: Event)
     ensures { journal.new ≡ record { events = journal.old.events ++ event ∷ []; room = journal.old.room - 1 } }
 {
     journal.push(event).unwrap();
-}
-
-fn word_of(state: ModState) -> &'static str {
-    match state {
-        ModState::Download => "Download",
-        ModState::ArtifactInstall => "ArtifactInstall",
-        ModState::ArtifactReboot => "ArtifactReboot",
-        ModState::ArtifactVerifyReboot => "ArtifactVerifyReboot",
-        ModState::ArtifactCommit => "ArtifactCommit",
-        ModState::ArtifactRollback => "ArtifactRollback",
-        ModState::ArtifactRollbackReboot => "ArtifactRollbackReboot",
-        ModState::ArtifactVerifyRollbackReboot => "ArtifactVerifyRollbackReboot",
-        ModState::ArtifactFailure => "ArtifactFailure",
-        ModState::Cleanup => "Cleanup",
-    }
-}
-
-fn query_word(query: Query) -> &'static str {
-    match query {
-        Query::SupportsRollback => "SupportsRollback",
-        Query::NeedsArtifactReboot => "NeedsArtifactReboot",
-    }
 }
 
 /// The absolute paths of a data folder. An empty word names none.
@@ -190,29 +169,19 @@ where
         named(self.alloc, "modules/v3", path)
     }
 
-    /// Calls a module with the state's name and the absolute path of its work folder, in which it runs.
+    /// Calls a module in a state.
     fn call_module(&self, payload: u8, kind: &Name, state: ModState) -> Result<u8, Failure> {
         let module = self.module(kind)?;
         let tree = self.tree(payload)?;
-        let program = Program {
-            path: module.as_str(),
-            first: word_of(state),
-            second: Some(tree),
-            folder: tree,
-        };
+        let program = Program::module(module.as_str(), ModuleWord::State(state), tree);
         children::run(&self.rt, self.alloc, program)
     }
 
-    /// Asks a module in the same way.
+    /// Asks a module.
     fn ask_module(&self, payload: u8, kind: &Name, query: Query) -> Result<(u8, Text32), Failure> {
         let module = self.module(kind)?;
         let tree = self.tree(payload)?;
-        let program = Program {
-            path: module.as_str(),
-            first: query_word(query),
-            second: Some(tree),
-            folder: tree,
-        };
+        let program = Program::module(module.as_str(), ModuleWord::Ask(query), tree);
         children::ask(&self.rt, self.alloc, program, self.paths.reply.as_str())
     }
 
@@ -353,5 +322,14 @@ where
         note(&mut self.journal, Event::Pause(seconds));
         let _ = self.sleep(seconds);
         Ok(())
+    }
+}
+
+impl<R: Files + Processes + Clock + Drop> Told for HostDevice<R>
+where
+    R::File: FileExt + Lockable + Into<Stdio>,
+{
+    fn journal(&self) -> &EventList {
+        &self.journal
     }
 }

@@ -7,6 +7,7 @@ use Rattle.upd_text.specs.Results.{◌>>=◌}
 use Rattle.provides_map.specs.Last.{key_of}
 use Rattle.flow_table.specs.declared.position.Position.{Position}
 use Rattle.flow_table.specs.Valid.{is_outcome, is_undoable, is_reboot, is_count}
+use Rattle.flow_table.specs.declared.table.TheConstants.{MOST_KINDS}
 use Rattle.record_codec.specs.declared.entry.Entry.{Entry}
 use Rattle.record_codec.specs.declared.entry.Db.{Db}
 use Rattle.record_codec.specs.declared.entry.Db.TheVariants.{Empty, Full}
@@ -17,7 +18,7 @@ use Rattle.record_codec.specs.Keys.{is_name, is_value}
 use Rattle.record_codec.specs.Bytes.{states, outcomes, answers, reboots}
 use Rattle.record_codec.specs.declared.entry.Version.{Version}
 use Rattle.record_codec.specs.declared.entry.Version.TheVariants.{First, Second}
-use Rattle.record_codec.specs.declared.length.TheConstants.{LARGEST_RECORD, MOST_KINDS}
+use Rattle.record_codec.specs.declared.length.TheConstants.{LARGEST_RECORD}
 use Rattle.record_codec.specs.declared.reader.whole.Head.{Head}
 use Rattle.record_codec.specs.Spelling.{is_kind, is_script, is_named}
 

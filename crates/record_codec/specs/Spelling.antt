@@ -5,6 +5,7 @@ use Rattle.std.specs.Int.{w16, w32, to_be_bytes}
 use Rattle.upd_text.specs.Parts.{is_plain}
 use Rattle.flow_table.specs.Valid.{is_valid}
 use Rattle.flow_table.specs.declared.position.Position.{Position}
+use Rattle.flow_table.specs.declared.table.TheConstants.{MOST_KINDS}
 use Rattle.provides_map.specs.Pairs.{Pairs, get, IsMap}
 use Rattle.provides_map.specs.After.{artifact_name, HasName}
 use Rattle.script_names.specs.Scripts.{AreScripts, is_artifact_script}
@@ -13,7 +14,7 @@ use Rattle.record_codec.specs.Bytes.{state_byte, outcome_byte, answer_byte, rebo
 use Rattle.record_codec.specs.declared.entry.Entry.{Entry}
 use Rattle.record_codec.specs.declared.entry.Version.{Version}
 use Rattle.record_codec.specs.declared.entry.Version.TheVariants.{First, Second}
-use Rattle.record_codec.specs.declared.length.TheConstants.{LARGEST_RECORD, MOST_KINDS}
+use Rattle.record_codec.specs.declared.length.TheConstants.{LARGEST_RECORD}
 use Rattle.record_codec.specs.declared.entry.Db.{Db}
 use Rattle.record_codec.specs.declared.entry.Db.TheVariants.{Empty, Full}
 

@@ -13,9 +13,6 @@ use upd_text::KindList;
 /// The most bytes that a record has.
 pub const LARGEST_RECORD: u32 = 131_072;
 
-/// The most payload types that an entry has; it has at least one.
-pub const MOST_KINDS: u8 = 8;
-
 fn map_length(map: &Provides) -> u64
     ensures exact { result ≡ length (pairs map.now) }
     ensures few { result ≤ 2 + 1156 * 2 ^ 32 }

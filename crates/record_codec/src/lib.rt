@@ -21,5 +21,5 @@ pub use laws::{
     broken_marks_the_name, faults_of_the_front, one_cell, one_record, one_spelling_of_positions,
     records_are_read, records_differ_by_position,
 };
-pub use length::{LARGEST_RECORD, MOST_KINDS, begun_length, encoded_length};
+pub use length::{LARGEST_RECORD, begun_length, encoded_length};
 pub use writer::{encode_into, patch};

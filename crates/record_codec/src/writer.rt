@@ -10,9 +10,9 @@ ghost use Rattle.record_codec.specs.declared.entry.Version.TheVariants.{Second};
 ghost use Rattle.record_codec.specs.Writing.{Puts};
 
 use crate::entry::Entry;
-use crate::length::{LARGEST_RECORD, MOST_KINDS};
+use crate::length::LARGEST_RECORD;
 use crate::position::bytes_of;
-use flow_table::Position;
+use flow_table::{MOST_KINDS, Position};
 use provides_map::Provides;
 use script_names::{ScriptList, ScriptName};
 use upd_text::KindList;

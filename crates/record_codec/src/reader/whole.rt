@@ -5,8 +5,8 @@ ghost use Rattle.std.specs.Prelude.{◌≡◌, ◌≤◌, length, Ok, Err, Match
 use super::{Reader, front};
 use crate::entry::{Entry, Version};
 use crate::fault::{DecodeFault, Wrong};
-use crate::length::{LARGEST_RECORD, MOST_KINDS};
-use flow_table::Position;
+use crate::length::LARGEST_RECORD;
+use flow_table::{MOST_KINDS, Position};
 use std::alloc::Global;
 
 /// The fields before the offset 16.
