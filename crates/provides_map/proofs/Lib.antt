@@ -1,5 +1,10 @@
 pub mod Tries
-pub mod Strikes
+pub mod Bits
+pub mod Behind
+pub mod Rows
+pub mod Windows
+pub mod Fills
+pub mod MarkLemmas
 pub mod Ends
 pub mod Puts
 pub mod Append

@@ -6,3 +6,4 @@ pub mod After
 pub mod ByKey
 pub mod Merge
 pub mod Marks
+pub mod Window

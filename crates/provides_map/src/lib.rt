@@ -10,6 +10,8 @@ mod marks;
 mod merge;
 mod pattern;
 mod provides;
+mod row;
+mod window;
 
 pub use change::{Change, Clears, PatternList, ValueList, Want, WantList};
 pub use effect::{after, broken, first_unmet, group_key, name_key};

@@ -1,7 +1,7 @@
 //! Which keys held no pattern matches, told for many keys at once: where there are many of both, a
 //! pattern is read once for all of them.
 
-ghost use Rattle.std.specs.Prelude.{◌≡◌, ◌≤◌, ◌<◌, ◌&&◌, ℕ, List, Bool, not, length};
+ghost use Rattle.std.specs.Prelude.{◌≡◌, ◌≤◌, ◌<◌, not, length};
 ghost use Rattle.std.specs.List.{list_any};
 ghost use Rattle.provides_map.specs.Match.{is_match};
 ghost use Rattle.provides_map.specs.Place.{key_at};
@@ -9,17 +9,14 @@ ghost use Rattle.provides_map.specs.After.{is_cleared};
 ghost use Rattle.provides_map.specs.Marks.{Tells, AreMarks};
 
 use crate::change::{Clears, PatternList};
-use crate::pattern::Pattern;
 use crate::provides::Provides;
-
-/// How many keys are told at once.
-pub(crate) const WINDOW: usize = 128;
+use crate::window::{WINDOW, Window};
 
 /// Of the `WINDOW` keys held from the place `start` on, or those that there are, which aren't cleared.
 #[derive(Drop)]
 pub(crate) struct Marks {
     start: u32,
-    left: [bool; WINDOW],
+    left: u64,
 }
 
 impl Marks {
@@ -30,10 +27,7 @@ impl Marks {
         ensures start { result.start ≡ start }
     {
         match clears {
-            Clears::All => Marks {
-                start,
-                left: [false; WINDOW],
-            },
+            Clears::All => Marks { start, left: 0 },
             Clears::Listed(patterns) => Marks {
                 start,
                 left: unmatched(patterns, held, start),
@@ -49,35 +43,22 @@ impl Marks {
         ensures marks { AreMarks clears.now held.now self.new }
         ensures value { result ≡ is_cleared clears.now (key_at held.now at) }
     {
-        if self.start <= at && at - self.start < WINDOW as u32 {
-            return !self.left[(at - self.start) as usize];
+        if at < self.start || WINDOW <= at - self.start {
+            *self = Marks::of(clears, held, at);
         }
-        *self = Marks::of(clears, held, at);
-        !self.left[0]
+        (self.left >> (at - self.start)) & 1 == 0
     }
 }
 
 // Which of the keys none of the patterns matches.
-fn unmatched(patterns: &PatternList, held: &Provides, start: u32) -> [bool; WINDOW]
+fn unmatched(patterns: &PatternList, held: &Provides, start: u32) -> u64
     requires { start ≤ length held.now }
     ensures { Tells held.now start result (λ key. not (list_any (λ p. is_match p key) patterns.now)) }
 {
-    let mut left = [true; WINDOW];
+    let window = Window::of(held, start);
+    let mut left = u64::MAX;
     for pattern in patterns.as_slice() {
-        strike(&mut left, pattern, held, start);
+        left &= !window.matched(left, pattern.name().bytes());
     }
     left
-}
-
-// Takes away the marks of the keys that the pattern matches.
-fn strike(left: &mut [bool; WINDOW], pattern: &Pattern, held: &Provides, start: u32)
-    requires { start ≤ length held.now }
-    ensures { (test : List ℕ → Bool) → Tells held.now start left.old test
-        → Tells held.now start left.new (λ key. test key && not (is_match pattern.now key)) }
-{
-    let count = (held.len() - start).min(WINDOW as u32);
-    for k in 0..count {
-        let other = !pattern.matches(held.pair(start + k).0);
-        left[k as usize] = left[k as usize] & other;
-    }
 }

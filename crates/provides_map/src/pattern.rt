@@ -4,7 +4,7 @@ ghost use Rattle.provides_map.specs.Match.{is_match, Matches, some_suffix};
 use std::marker::Model;
 use upd_text::Name;
 
-const STAR: u8 = b'*';
+pub(crate) const STAR: u8 = b'*';
 
 /// A name in which each `*` stands for any bytes, also none, and every other byte for itself.
 #[derive(Drop)]
