@@ -387,7 +387,7 @@ wrong 'type ' 'a type has 1 to 128 bytes, and no control byte'
 wrong 'own Download_Enter_5' "this is no script's name, or one too many"
 wrong 'tree a\0ab x' "a path has 1 to 128 bytes, and no control byte; odd begins the line of one that hasn't"
 wrong 'odd tree ab x' "a path has 1 to 128 bytes, and no control byte; odd begins the line of one that hasn't"
-wrong 'filled data/0000/x 1000000' 'a file has fewer than 1000000 bytes'
+wrong 'filled data/0000/x 1000000 x' 'a file has fewer than 1000000 bytes'
 wrong "file data/0000/x $(bytes 1000000)" 'a file has fewer than 1000000 bytes'
 wrong 'area 266240 x' 'the area has 266240 bytes'
 wrong 'each fault 0 1' 'this row makes no boot'

@@ -24,6 +24,3 @@ pub use layout::LEAST_SIZE;
 pub use mem_blocks::MemBlocks;
 pub use partition::Partition;
 pub use report::AbAct;
-
-#[cfg(test)]
-mod tests;

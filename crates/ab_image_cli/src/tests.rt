@@ -1,3 +1,4 @@
-//! The module over a real file.
+//! The module over a disk in memory, and over a real file.
 
+mod rows;
 mod syncs;

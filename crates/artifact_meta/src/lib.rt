@@ -18,6 +18,3 @@ pub use header::{HeaderInfo, read_header_info};
 pub use info::{InfoList, TypeInfo, read_type_info, read_version};
 pub use kinds::MOST_PAYLOADS;
 pub use laws::{lists_are_read_in_order, no_reader_compares_types};
-
-#[cfg(test)]
-mod tests;

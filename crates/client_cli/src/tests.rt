@@ -1,6 +1,9 @@
-//! What no row and no script shows: boots in a row and rounds of a seed, long texts, and the host's words and streams.
+//! What no row and no script shows: boots in a row and rounds of a seed, calls of the device in memory, records, metadata and long
+//! texts, and the host's words and streams.
 
 mod boots;
+mod device;
+mod records;
 mod rounds;
 mod streams;
 mod texts;

@@ -19,6 +19,3 @@ pub use disk::MemDisk;
 pub use moment::{Moment, moment_at};
 pub use script::{AnswerList, LossAt, LossList, Plan, Script, Tear};
 pub use work::{WorkFile, WorkList};
-
-#[cfg(test)]
-mod tests;

@@ -1,4 +1,5 @@
-//! The module over real files.
+//! The module over a place in memory, and over real files.
 
 mod noting;
+mod rows;
 mod syncs;

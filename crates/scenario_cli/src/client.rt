@@ -7,6 +7,7 @@ use device_model::{Device, Part, ROOM};
 use event_text::spelled;
 use io_model::{FileList, MemSink, MemSource, Source};
 use lab::top;
+use manifest_sums::Summing;
 use script_names::{ScriptList, Site};
 use slot_store::Store;
 use std::alloc::{AllocError, Global};
@@ -34,6 +35,12 @@ pub struct Said {
 /// The text of a boot has at most so many bytes.
 const MOST_TEXT: u32 = 200_000;
 
+/// The longest file whose bytes are told.
+const LONGEST: usize = 1_000;
+
+/// The bytes of a block of the area, in which a cell has room.
+const BLOCK: usize = 64;
+
 /// The words of a line, which a blank parts.
 fn words_of(alloc: Global, line: &str) -> Result<Vec<String>, AllocError> {
     let mut words = Vec::new(alloc);
@@ -57,6 +64,20 @@ fn count_of(alloc: Global, device: &mut MemDevice) -> u8 {
     }
 }
 
+/// The bytes of a file; of a long one their number and their sum.
+fn content_of(alloc: Global, bytes: &[u8]) -> Result<String, NoMemory> {
+    if bytes.len() <= LONGEST {
+        return text_of(alloc, bytes);
+    }
+    let mut summing = Summing::new();
+    summing.piece(bytes);
+    let sum = summing.finish().hex();
+    let sum = String::from_utf8_lossy(alloc, sum.as_slice())?;
+    let count = bytes.len();
+    let text = format!(in alloc; "{count} bytes with the sum {sum}")?;
+    Ok(text)
+}
+
 /// A line for a file of the work folder.
 fn line_of(alloc: Global, file: &WorkFile) -> Result<String, NoMemory> {
     let path = String::from_utf8_lossy(alloc, file.path().bytes())?;
@@ -66,7 +87,7 @@ fn line_of(alloc: Global, file: &WorkFile) -> Result<String, NoMemory> {
     };
     if !file.bytes().is_empty() {
         line.push_str(" ")?;
-        line.push_str(text_of(alloc, file.bytes())?.as_str())?;
+        line.push_str(content_of(alloc, file.bytes())?.as_str())?;
     }
     line.push_str("\n")?;
     Ok(line)
@@ -136,6 +157,20 @@ impl Client {
     pub fn bytes(&self, alloc: Global, at: usize, count: usize) -> Result<String, NoMemory> {
         let behind = self.device.area().get(at..).unwrap_or(&[]);
         text_of(alloc, behind.get(..count).unwrap_or(behind))
+    }
+
+    /// Where the blocks of the area begin that have other bytes than in the area of a client.
+    pub fn changed(&self, alloc: Global, first: &Client) -> Result<String, NoMemory> {
+        let mut text = String::new(alloc);
+        let mut at = 0u32;
+        let blocks = self.device.area().chunks(BLOCK);
+        for (block, old) in blocks.zip(first.device.area().chunks(BLOCK)) {
+            if block != old {
+                text.push_str(format!(in alloc; "{at}\n")?.as_str())?;
+            }
+            at = at.saturating_add(BLOCK as u32);
+        }
+        Ok(text)
     }
 
     /// The files of the work folder as they were at the first child.

@@ -59,7 +59,10 @@ fn begins_row(line: &str) -> bool {
 /// Whether the line sets up nothing, but asks for something.
 fn is_step(line: &str) -> bool {
     let (word, _) = word_of(line);
-    matches!(word, ">" | "-" | "each" | "bytes" | "given" | "read")
+    matches!(
+        word,
+        ">" | "-" | "each" | "bytes" | "changed" | "given" | "read"
+    )
 }
 
 fn is_comment(line: &str) -> bool {
@@ -147,8 +150,8 @@ fn boot(
     Ok(Told { line, said })
 }
 
-/// `each MOMENTS`: the boots played anew. `bytes AT COUNT`: bytes of the area. `given`: the work folder at the first child.
-/// `read`: how many bytes of each file of the tree were read.
+/// `each MOMENTS`: the boots played anew. `bytes AT COUNT`: bytes of the area. `changed`: where the area has other bytes than the
+/// row gave it. `given`: the work folder at the first child. `read`: how many bytes of each file of the tree were read.
 fn shown(
     alloc: Global,
     row: &Row,
@@ -159,6 +162,7 @@ fn shown(
         "each" => ends(alloc, row, rest),
         "given" => Ok(client.given(alloc)?),
         "read" => Ok(client.read(alloc)?),
+        "changed" => Ok(client.changed(alloc, &row.client(alloc, "")?)?),
         "bytes" => {
             let (at, count) = range_of(rest)?;
             Ok(client.bytes(alloc, at, count)?)

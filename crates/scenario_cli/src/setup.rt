@@ -255,8 +255,8 @@ impl Setup {
 
     /// `tree PATH BYTES`: a file in front of the manifest. `file PATH BYTES`: other bytes of it, or one behind the manifest.
     /// `front PATH BYTES`: a file in front of all, without a line in the manifest. `unlisted PATH BYTES`: one behind all.
-    /// `filled PATH COUNT`: a file of so many bytes x, as by `file`. `many PATH COUNT`: so many files of three bytes, as by
-    /// `tree`, whose paths have 00, 01 and so on at their end.
+    /// `filled PATH COUNT BYTES`: behind the bytes of a file these so many times, as by `file`. `many PATH COUNT`: so many files of
+    /// three bytes, as by `tree`, whose paths have 00, 01 and so on at their end.
     fn take_file(&mut self, word: &str, path: Vec<u8>, rest: &str) -> Result<(), Stop> {
         match word {
             "tree" => self
@@ -278,13 +278,14 @@ impl Setup {
         Ok(())
     }
 
-    fn take_filled(&mut self, path: Vec<u8>, count: &str) -> Result<(), Stop> {
+    fn take_filled(&mut self, path: Vec<u8>, text: &str) -> Result<(), Stop> {
+        let (count, bytes) = parted(text)?;
         let count = number(count)?;
         if count >= MOST_BYTES as u64 {
             return Err(Stop::Wrong(Reason::Large));
         }
-        let bytes = vec![in self.alloc; b'x'; count as usize]?;
-        Ok(self.tree.change(path, bytes)?)
+        let bytes = bytes_of(self.alloc, bytes)?;
+        self.tree.fill(path, count as u32, &bytes)
     }
 
     /// `supports TEXT`, `needs TEXT`: what modules reply to the two questions. `other TEXT`: what the next payload behind the first

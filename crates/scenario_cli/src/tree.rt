@@ -113,6 +113,28 @@ impl Tree {
         self.add(Place::Further, path, bytes)
     }
 
+    /// The bytes of the file with this path. One that isn't there has none.
+    fn bytes_at(&self, path: &[u8]) -> Result<Vec<u8>, NoMemory> {
+        for file in &self.files {
+            if file.path.as_slice() == path {
+                return Ok(Vec::from_slice(self.alloc, &file.bytes)?);
+            }
+        }
+        Ok(Vec::new(self.alloc))
+    }
+
+    /// Adds these bytes so many times to the file with this path, or to a further one.
+    pub fn fill(&mut self, path: Vec<u8>, count: u32, bytes: &[u8]) -> Result<(), Stop> {
+        let mut all = self.bytes_at(&path)?;
+        for _ in 0..count {
+            all.extend_from_slice(bytes)?;
+            if all.len() >= MOST_BYTES {
+                return Err(Stop::Wrong(Reason::Large));
+            }
+        }
+        Ok(self.change(path, all)?)
+    }
+
     /// The line of this path has this sum. It stands behind those that are made of the files.
     pub fn give_line(&mut self, path: Vec<u8>, sum: Vec<u8>) -> Result<(), NoMemory> {
         self.lines.push(Line { path, sum })?;

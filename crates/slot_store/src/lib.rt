@@ -9,6 +9,3 @@ mod writing;
 
 pub use laws::{areas_without_cells, the_area_in_numbers, zeros_are_empty};
 pub use store::{MountFault, Store};
-
-#[cfg(test)]
-mod tests;

@@ -15,6 +15,3 @@ mod values;
 pub use fault::PrepareFault;
 pub use fill::prepare;
 pub use laws::{only_payloads_differ, right_sums_never_differ};
-
-#[cfg(test)]
-mod tests;

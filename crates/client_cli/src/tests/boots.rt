@@ -36,18 +36,26 @@ impl Boots {
     }
 }
 
-/// All children exit 0, modules say that they can be taken back, and no reboot is needed.
-pub(super) fn calm(alloc: Global) -> Script {
+/// No loss and no fault, and all children exit 0.
+pub(super) fn quiet(alloc: Global) -> Script {
     Script {
         answers: AnswerList::new(alloc),
-        supports: Answer::Reply(0, Text32::cut(b"Yes")),
-        needs: Answer::Reply(0, Text32::cut(b"No")),
+        supports: Answer::Exit(0),
+        needs: Answer::Exit(0),
         others: AnswerList::new(alloc),
         losses: LossList::new(alloc),
         cuts: CallList::new(alloc),
         faults: CallList::new(alloc),
         meddle: false,
     }
+}
+
+/// All children exit 0, modules say that they can be taken back, and no reboot is needed.
+pub(super) fn calm(alloc: Global) -> Script {
+    let mut script = quiet(alloc);
+    script.supports = Answer::Reply(0, Text32::cut(b"Yes"));
+    script.needs = Answer::Reply(0, Text32::cut(b"No"));
+    script
 }
 
 pub(super) fn new_device(alloc: Global, script: Script) -> Result<MemDevice, NoMemory>

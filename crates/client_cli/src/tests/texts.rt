@@ -90,6 +90,21 @@ fn a_sink_that_fails_has_a_front_of_the_text(rt: HostRuntime) -> Result<(), Fail
     Ok(())
 }
 
+/// It is written again into the other slot: all but its version and its number of payload types as it was.
+#[test]
+fn the_largest_record_is_written_again_whole(rt: HostRuntime) -> Result<(), Fail> {
+    let record = largest(rt.alloc())?;
+    let mut device = device_of(rt.alloc(), &record)?;
+    let (status, _) = told(rt.alloc(), &mut device, "show-artifact", 99)?;
+    assert_eq!(rt; status, 0);
+    let slots = device.area().get(4_096..).ok_or("an area")?;
+    assert!(rt; slots.starts_with(&record));
+    let written = slots.get(131_072..).ok_or("two slots")?;
+    assert!(rt; written.starts_with(b"MUP2\x00\x02\x00\x00\x05\x01\x00\x00"));
+    assert!(rt; written.get(12..) == record.get(12..));
+    Ok(())
+}
+
 /// Nothing is simulated here.
 #[test]
 fn words_that_are_done_above_are_refused(rt: HostRuntime) -> Result<(), Fail> {

@@ -1,7 +1,7 @@
 //! Deployments in which power is lost, or a call fails, at each call of the disk.
 
 use super::{RECORD, call, disk_of, release};
-use crate::MemBlocks;
+use ab_image::MemBlocks;
 use device_mem::{LossAt, LossList, Tear};
 use std::alloc::Global;
 use std::test::Fail;
@@ -19,7 +19,7 @@ const IMAGE_RECORD: [u8; 40] = [
 ];
 
 /// Disks of so many bytes, and what becomes of their bytes that aren't synced: the old ones, the new ones, ones, others.
-const DISKS: [(u32, Tear); 6] = [
+const DISKS: &[(u32, Tear)] = &[
     (8_192, Tear::Old),
     (8_192, Tear::New),
     (8_192, Tear::Byte(0xff)),
@@ -29,7 +29,7 @@ const DISKS: [(u32, Tear); 6] = [
 ];
 
 /// A deployment and the begin of another: the words, and which image boots after each.
-const COURSE: [(&str, &str); 6] = [
+const COURSE: &[(&str, &str)] = &[
     ("Download", "old"),
     ("ArtifactCommit", "new"),
     ("ArtifactRollback", "old"),
@@ -108,7 +108,7 @@ fn deployed(
     let mut before = "old";
     let mut lost = 0u32;
     let mut failed = 0u32;
-    for (word, then) in COURSE {
+    for &(word, then) in COURSE {
         let (more, others) = obeyed(alloc, &mut blocks, word, before, then)?;
         lost = lost.saturating_add(more);
         failed = failed.saturating_add(others);
@@ -132,7 +132,7 @@ fn lost_at(alloc: Global, size: u32, losses: &[LossAt]) -> Result<(u32, u32), Fa
 
 #[test]
 fn each_call_loses_power(rt: HostRuntime) -> Result<(), Fail> {
-    for (size, tear) in DISKS {
+    for &(size, tear) in DISKS {
         for call in 0..CALLS {
             for before in [true, false] {
                 let loss = LossAt { call, before, tear };

@@ -3,7 +3,7 @@
 mod artifacts;
 mod losses;
 
-use super::*;
+use ab_image::{AbAct, MemBlocks, act};
 use device_mem::{LossAt, LossList, Tear};
 use io_model::{FileList, MemSink, MemSource};
 use std::alloc::Global;
@@ -106,7 +106,7 @@ fn call(
 }
 
 /// Words, how many bytes each writes to the sink, and the choice and the origin after it.
-const EMPTY_IMAGE: [(&str, usize, [u8; 2]); 9] = [
+const EMPTY_IMAGE: &[(&str, usize, [u8; 2])] = &[
     ("SupportsRollback", 3, [0, 0]),
     ("NeedsArtifactReboot", 2, [0, 0]),
     ("Download", 0, [0, 0]),
@@ -123,7 +123,7 @@ fn an_empty_image_is_chosen_and_given_up(rt: HostRuntime) -> Result<(), Fail> {
     let alloc = rt.alloc();
     let mut source = release(alloc, b"", EMPTY)?;
     let mut blocks = disk(alloc, LossList::new(alloc))?;
-    for (word, count, bytes) in EMPTY_IMAGE {
+    for &(word, count, bytes) in EMPTY_IMAGE {
         assert_eq!(rt;
             call(alloc, word, &mut source, &mut blocks)?,
             ((0, 0), count),

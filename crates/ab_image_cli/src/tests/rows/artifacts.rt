@@ -32,7 +32,7 @@ fn answers(alloc: Global, images: u32, sum: &[u8], failing: u64) -> Result<[(u8,
 }
 
 /// So many images, the sum, the call of the source that fails, and what is answered.
-const ARTIFACTS: [(u32, &[u8], u64, [(u8, u64); 2]); 6] = [
+const ARTIFACTS: &[(u32, &[u8], u64, [(u8, u64); 2])] = &[
     (0, EMPTY, 99, [(2, 0), (6, 0)]),
     (2, EMPTY, 99, [(2, 2), (6, 0)]),
     (1, b"", 99, [(3, 0), (3, 0)]),
@@ -43,7 +43,7 @@ const ARTIFACTS: [(u32, &[u8], u64, [(u8, u64); 2]); 6] = [
 
 #[test]
 fn wrong_artifacts(rt: HostRuntime) -> Result<(), Fail> {
-    for (images, sum, failing, said) in ARTIFACTS {
+    for &(images, sum, failing, said) in ARTIFACTS {
         assert_eq!(rt;
             answers(rt.alloc(), images, sum, failing)?,
             said,

@@ -2,8 +2,8 @@
 
 ghost use Rattle.std.specs.Prelude.{◌≡◌};
 
-use crate::{FileAct, MemPlace, Slot, act};
 use device_mem::{LossAt, LossList, Tear};
+use file_module::{FileAct, MemPlace, Slot, act};
 use io_model::{FileList, MemSink, MemSource};
 use std::alloc::Global;
 use std::test::Fail;
@@ -68,7 +68,7 @@ const ONE: &[&str] = &["files/app.bin"];
 
 #[test]
 fn each_word_is_answered(rt: HostRuntime) -> Result<(), Fail> {
-    let rows: [(&str, FileAct, &[u8]); 6] = [
+    let rows: &[(&str, FileAct, &[u8])] = &[
         ("SupportsRollback", FileAct::Done, b"Yes"),
         ("NeedsArtifactReboot", FileAct::Done, b"No"),
         ("ArtifactCommit", FileAct::Done, b""),
@@ -76,7 +76,7 @@ fn each_word_is_answered(rt: HostRuntime) -> Result<(), Fail> {
         ("Cleanup", FileAct::Done, b""),
         ("Upload", FileAct::Usage, b""),
     ];
-    for (word, wanted, text) in rows {
+    for &(word, wanted, text) in rows {
         let mut place = place_of(
             rt.alloc(),
             &Row {
@@ -93,12 +93,12 @@ fn each_word_is_answered(rt: HostRuntime) -> Result<(), Fail> {
 
 #[test]
 fn a_rollback_brings_the_target_back(rt: HostRuntime) -> Result<(), Fail> {
-    let rows: [(Option<&[u8]>, &[u8]); 3] = [
+    let rows: &[(Option<&[u8]>, &[u8])] = &[
         (Some(b"old"), b"\x01old"),
         (Some(b""), b"\x01"),
         (None, b"\x00"),
     ];
-    for (target, saved) in rows {
+    for &(target, saved) in rows {
         let mut place = place_of(
             rt.alloc(),
             &Row {
@@ -119,12 +119,12 @@ fn a_rollback_brings_the_target_back(rt: HostRuntime) -> Result<(), Fail> {
 
 #[test]
 fn there_is_one_payload_file(rt: HostRuntime) -> Result<(), Fail> {
-    let rows: [(&[&str], FileAct); 3] = [
+    let rows: &[(&[&str], FileAct)] = &[
         (&[], FileAct::BadPayload(0)),
         (&["files/a", "files/b"], FileAct::BadPayload(2)),
         (&["a", "files/b"], FileAct::Done),
     ];
-    for (paths, wanted) in rows {
+    for &(paths, wanted) in rows {
         let mut place = place_of(
             rt.alloc(),
             &Row {
@@ -160,7 +160,7 @@ fn ended(alloc: Global, word: &str, saved: &[u8], failing: [u64; 3]) -> Result<F
 
 #[test]
 fn each_answer_has_its_cause(rt: HostRuntime) -> Result<(), Fail> {
-    let rows: [(&str, &[u8], [u64; 3], FileAct); 8] = [
+    let rows: &[(&str, &[u8], [u64; 3], FileAct)] = &[
         ("ArtifactInstall", b"\x00", [NEVER, NEVER, 0], FileAct::Done),
         ("Install", b"\x00", [0, 0, 0], FileAct::Usage),
         (
@@ -185,7 +185,7 @@ fn each_answer_has_its_cause(rt: HostRuntime) -> Result<(), Fail> {
         ),
         ("ArtifactRollback", b"\x01", [0, NEVER, 0], FileAct::Done),
     ];
-    for (word, saved, failing, wanted) in rows {
+    for &(word, saved, failing, wanted) in rows {
         let answer = ended(rt.alloc(), word, saved, failing)?;
         assert_eq!(rt; answer, wanted, "{word}");
     }

@@ -1,24 +1,11 @@
-//! Tables of losses and faults, the children of a script, and the work folder.
+//! Calls of the device in memory that the client makes at no moment, or whose answers it doesn't tell.
 
-use super::*;
+use super::boots::quiet;
+use device_mem::{AreaBytes, LossAt, MemDevice, Script, Tear};
 use device_model::{AREA, Answer, Asked, Call, Device, Down, Event, Off, Part, Query, Ran};
 use std::alloc::Global;
 use std::test::Fail;
-use upd_text::{CallList, Name, NoMemory, Text32};
-
-/// No loss, no fault and no answer.
-fn quiet(alloc: Global) -> Script {
-    Script {
-        answers: AnswerList::new(alloc),
-        supports: Answer::Exit(0),
-        needs: Answer::Exit(0),
-        others: AnswerList::new(alloc),
-        losses: LossList::new(alloc),
-        cuts: CallList::new(alloc),
-        faults: CallList::new(alloc),
-        meddle: false,
-    }
-}
+use upd_text::{Name, NoMemory, Text32};
 
 /// A device with the bytes 1, 2, 3, 4 at offset 100, and zeros elsewhere.
 fn device_of(alloc: Global, script: Script) -> Result<MemDevice, NoMemory> {
@@ -105,24 +92,13 @@ fn has_only_a_loss(device: &MemDevice) -> bool {
 }
 
 #[test]
-fn a_loss_tears_what_is_unsynced(rt: HostRuntime) -> Result<(), Fail> {
-    let rows = [
-        (true, Tear::Old, [1, 2, 3, 4]),
-        (true, Tear::New, [5, 6, 3, 4]),
-        (true, Tear::Byte(0xff), [0xff, 0xff, 3, 4]),
-        (true, Tear::Byte(0x10), [0x10, 0x10, 3, 4]),
-        (false, Tear::Old, [1, 2, 3, 4]),
-        (false, Tear::New, [5, 6, 7, 8]),
-        (false, Tear::Byte(0xff), [0xff; 4]),
-        (false, Tear::Byte(0x10), [0x10; 4]),
-    ];
-    for (before, tear, left) in rows {
-        let mut device = losing(rt.alloc(), 1, before, tear)?;
+fn a_device_that_lost_power_is_off(rt: HostRuntime) -> Result<(), Fail> {
+    for before in [true, false] {
+        let mut device = losing(rt.alloc(), 1, before, Tear::Byte(0xff))?;
         assert_eq!(rt; loses_at_the_second(&mut device), Some([true; 3]));
         assert!(rt; has_only_a_loss(&device));
         device.power_on();
         assert_eq!(rt; device.journal().room(), 20);
-        assert_eq!(rt; read(&mut device), Some(left));
     }
     Ok(())
 }
@@ -146,7 +122,7 @@ fn left_by_a_loss(device: &mut MemDevice) -> Option<[u8; 4]> {
 
 #[test]
 fn faults_come_where_they_are_planned(rt: HostRuntime) -> Result<(), Fail> {
-    let rows: [(&[u64], Tear, [bool; 3], [u8; 4]); 6] = [
+    let rows: &[(&[u64], Tear, [bool; 3], [u8; 4])] = &[
         (&[], Tear::Old, [true, true, true], [5, 6, 3, 4]),
         (&[0], Tear::Old, [false, true, false], [1, 2, 3, 4]),
         (&[1], Tear::Old, [true, false, true], [1, 2, 3, 4]),
@@ -154,7 +130,7 @@ fn faults_come_where_they_are_planned(rt: HostRuntime) -> Result<(), Fail> {
         (&[1, 3], Tear::New, [true, false, true], [5, 6, 3, 4]),
         (&[2], Tear::Byte(9), [true, true, false], [5, 6, 3, 4]),
     ];
-    for (faults, tear, answers, left) in rows {
+    for &(faults, tear, answers, left) in rows {
         let mut device = failing(rt.alloc(), faults, tear)?;
         assert_eq!(rt; write_and_sync(&mut device), Some(answers));
         assert_eq!(rt; left_by_a_loss(&mut device), Some(left));
@@ -196,13 +172,13 @@ fn with_others(alloc: Global) -> Result<MemDevice, NoMemory> {
 #[test]
 fn each_payload_replies_for_itself(rt: HostRuntime) -> Result<(), Fail> {
     let mut device = with_others(rt.alloc())?;
-    let rows = [
+    let rows: &[(u8, (u8, Option<u8>))] = &[
         (0, (0, Some(b'Y'))),
         (1, (5, Some(b'N'))),
         (2, (6, None)),
         (3, (0, Some(b'Y'))),
     ];
-    for (payload, supports) in rows {
+    for &(payload, supports) in rows {
         let query = Query::SupportsRollback;
         assert_eq!(rt; ask(&mut device, payload, query), Some(supports));
         let query = Query::NeedsArtifactReboot;
