@@ -21,9 +21,9 @@ PAYLOADS = 8
 
 
 def record_of(keys):
-    """The record of a committed deployment that provides as many of these as fit."""
+    """The record of a committed deployment that provides as many of these as leave room for what the tree brings."""
     pairs = [(b"artifact_name", b"r")]
-    room = LIMIT - 16 - 2 - 2 - 3 - len(pair(*pairs[0]))
+    room = LIMIT - 256
     for key in keys:
         room -= len(pair(key, b""))
         if room < 0 or len(pairs) == 65_535:
@@ -39,16 +39,17 @@ def words(letters, length):
 
 
 def type_info(patterns):
-    """A type-info with as many of these patterns as fit, and how many they are."""
+    """A type-info with as many of these patterns as fit, and one that matches all, so that what is held may be large; and how many
+    they are."""
     text = '{"type":"single-file","clears_artifact_provides":['
     taken = []
-    room = 65_536 - len(text) - 2
+    room = 65_536 - len(text) - 2 - 3
     for pattern in patterns:
         room -= len(pattern) + 3
         if room < 0:
             break
         taken.append(f'"{pattern}"')
-    return (text + ",".join(taken) + "]}").encode(), len(taken)
+    return (text + ",".join(taken + ['"*"']) + "]}").encode(), len(taken)
 
 
 LETTERS = "abcdefghijklmnopqrstuvwxyz"
@@ -83,7 +84,7 @@ def main():
         for kind, patterns in KINDS.items():
             text, number = type_info(patterns())
             for i in range(PAYLOADS):
-                FILES[f"header/headers/{i:04}/type-info"] = text
+                FILES[f"header/headers/{i:04}/type-info"] = text if i == PAYLOADS - 1 else text.replace(b',"*"]', b"]")
             with tempfile.TemporaryDirectory() as folder:
                 make_data(folder, record)
                 make_tree(os.path.join(folder, "tree"), {"image": [b"abc"]})
