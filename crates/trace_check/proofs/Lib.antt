@@ -1,0 +1,13 @@
+pub mod Readings
+pub mod Steps
+pub mod Same
+pub mod Meaning
+pub mod Walking
+pub mod Falls
+pub mod Leading
+pub mod Resting
+pub mod Judging
+pub mod Chains
+pub mod Puts
+pub mod Exact
+pub mod Noted
