@@ -93,12 +93,13 @@ fn has_only_a_loss(device: &MemDevice) -> bool {
 
 #[test]
 fn a_device_that_lost_power_is_off(rt: HostRuntime) -> Result<(), Fail> {
-    for before in [true, false] {
+    for (before, left) in [(true, [0xff, 0xff, 3, 4]), (false, [0xff; 4])] {
         let mut device = losing(rt.alloc(), 1, before, Tear::Byte(0xff))?;
         assert_eq!(rt; loses_at_the_second(&mut device), Some([true; 3]));
         assert!(rt; has_only_a_loss(&device));
         device.power_on();
         assert_eq!(rt; device.journal().room(), 20);
+        assert_eq!(rt; read(&mut device), Some(left));
     }
     Ok(())
 }
