@@ -93,13 +93,26 @@ fn has_only_a_loss(device: &MemDevice) -> bool {
 
 #[test]
 fn a_device_that_lost_power_is_off(rt: HostRuntime) -> Result<(), Fail> {
-    for (before, left) in [(true, [0xff, 0xff, 3, 4]), (false, [0xff; 4])] {
-        let mut device = losing(rt.alloc(), 1, before, Tear::Byte(0xff))?;
-        assert_eq!(rt; loses_at_the_second(&mut device), Some([true; 3]));
-        assert!(rt; has_only_a_loss(&device));
-        device.power_on();
-        assert_eq!(rt; device.journal().room(), 20);
-        assert_eq!(rt; read(&mut device), Some(left));
+    let tears: &[(Tear, [u8; 4])] = &[
+        (Tear::Old, [1, 2, 3, 4]),
+        (Tear::New, [5, 6, 7, 8]),
+        (Tear::Byte(0x10), [0x10; 4]),
+        (Tear::Byte(0xff), [0xff; 4]),
+    ];
+    for &(tear, torn) in tears {
+        for before in [true, false] {
+            let mut device = losing(rt.alloc(), 1, before, tear)?;
+            assert_eq!(rt; loses_at_the_second(&mut device), Some([true; 3]));
+            assert!(rt; has_only_a_loss(&device));
+            device.power_on();
+            assert_eq!(rt; device.journal().room(), 20);
+            let left = if before {
+                [torn[0], torn[1], 3, 4]
+            } else {
+                torn
+            };
+            assert_eq!(rt; read(&mut device), Some(left));
+        }
     }
     Ok(())
 }
