@@ -57,6 +57,7 @@ PAIRS = [bytes(two) for two in itertools.product((b for b in range(0x20, 0x100) 
 HELD = {
     "of 2 bytes": PAIRS,
     "of 3 bytes": [b"a" + two for two in PAIRS],
+    "of 9 bytes": [two + b"a" * 7 for two in PAIRS],
     "of 125": [b"a" * 122 + two + b"b" for two in PAIRS],
 }
 KINDS = {
@@ -66,6 +67,9 @@ KINDS = {
     "both": lambda: ("*" + word + "*" for word in words(LETTERS, 6)),
     "a letter between stars": lambda: (f"*{a}*{b}*{c}*{d}" for a, b, c, d in words(LETTERS, 4)),
     "the same letter": lambda: itertools.repeat("*a*a*a*c"),
+    "a letter, then the same": lambda: (f"*{a}*a*a*a" for a in itertools.cycle(LETTERS)),
+    "a letter, the same, stars": lambda: (f"*{a}a*a*a*" for a in itertools.cycle(LETTERS)),
+    "a letter, the same, a star": lambda: (f"*{a}aaaaa*" for a in itertools.cycle(LETTERS)),
     "stars alone but one": lambda: itertools.repeat("*" * 7 + "c"),
     "long, the same letter": lambda: itertools.repeat("c" + "*a" * 63),
     "long, behind the keys' letter": lambda: itertools.repeat("a*c" + "*a" * 62),
