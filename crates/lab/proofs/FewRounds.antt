@@ -9,12 +9,13 @@ use Rattle.std.proofs.lemmas.Bool.Decides.{nat_tests}
 use Rattle.upd_text.specs.Text.{decimal_of}
 use Rattle.client_words.specs.declared.command.Command.{Command}
 use Rattle.client_words.specs.declared.command.Command.TheVariants.{Simulate}
+use Rattle.client_words.specs.declared.command.TheConstants.{MOST_ROUNDS}
 use Rattle.client_words.specs.declared.command.UsageFault.{UsageFault}
 use Rattle.client_words.specs.declared.command.UsageFault.TheVariants.{UnknownCommand}
 use Rattle.client_words.specs.Forms.{Form, Ends, Word, Tree, Number, forms, number_below, behind, first_end, said_at_end, if_left, rest_said, wrong_word, command_said, data_said, begins_with_data, words_said, said_command, command_of}
 
 abbrev FewRounds : Command → Type 0
-FewRounds (Simulate seed rounds) = rounds ≤ 1000
+FewRounds (Simulate seed rounds) = rounds ≤ MOST_ROUNDS
 FewRounds _ = ⊤
 
 -- what a form says has few rounds
@@ -99,5 +100,5 @@ words-few : (words : List (String Global)) → IfOk (said_command (words_said wo
 unfolding words_said
 words-few words = by-data (begins_with_data words) words
 
-pub few-rounds : (words : List (String Global)) (seed rounds : ℕ) → command_of words ≡ Ok (Simulate seed rounds) → rounds ≤ 1000
+pub few-rounds : (words : List (String Global)) (seed rounds : ℕ) → command_of words ≡ Ok (Simulate seed rounds) → rounds ≤ MOST_ROUNDS
 few-rounds words seed rounds is = subst (λ (r : Result Command UsageFault). IfOk r FewRounds) is (words-few words)

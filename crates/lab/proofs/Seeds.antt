@@ -1,6 +1,7 @@
 -- The rounds of a seed, one after another.
 use Rattle.std.proofs.Common.{◌≡◌, ℕ, suc, ◌+◌, ◌<◌, ◌≤◌, refl, sym, ap, ◌∙◌, subst, arith}
 use Rattle.flow_table.specs.declared.position.Outcome.{Outcome}
+use Rattle.client_words.specs.declared.command.TheConstants.{MOST_ROUNDS}
 use Rattle.lab.specs.declared.counts.Counts.{Counts}
 use Rattle.lab.specs.declared.draws.Round.{Round}
 use Rattle.lab.specs.Draws.{round_of, next_round}
@@ -46,7 +47,7 @@ drawn-rounds {seed} {i} {counts} d = (adds-up seed i counts d.simulated).1
 pub drawn-sum : {seed i : ℕ} {counts : Counts} {state : ℕ} → Drawn seed i counts state → AddsUp counts
 drawn-sum {seed} {i} {counts} d = (adds-up seed i counts d.simulated).0
 
-pub drawn-few : {seed i : ℕ} {counts : Counts} {state : ℕ} (rounds : ℕ) → Drawn seed i counts state → i < rounds → rounds ≤ 1000 → counts.rounds < 1000
+pub drawn-few : {seed i : ℕ} {counts : Counts} {state : ℕ} (rounds : ℕ) → Drawn seed i counts state → i < rounds → rounds ≤ MOST_ROUNDS → counts.rounds < MOST_ROUNDS
 drawn-few rounds d less few = let r = drawn-rounds d in omega (arith, r, less, few)
 
 pub drawn-all : {seed i : ℕ} {counts : Counts} {state : ℕ} (rounds : ℕ) → Drawn seed i counts state → i ≡ rounds → Simulates seed rounds counts

@@ -2,6 +2,7 @@
 
 ghost use Rattle.std.specs.Prelude.{◌≡◌, ◌≤◌, ◌<◌, [], length, All, IfOk};
 ghost use Rattle.device_mem.specs.Mem.{mem_of};
+ghost use Rattle.client_words.specs.declared.command.TheConstants.{MOST_ROUNDS};
 ghost use Rattle.lab.specs.Trees.{tree_of};
 ghost use Rattle.lab.specs.Simulation.{Played, Simulates, the_site, new_source, new_device};
 ghost use Rattle.lab.specs.Rounds.{IsTurn};
@@ -107,9 +108,9 @@ fn play(alloc: Global, round: Round) -> Result<Outcome, NoMemory>
     unreachable!()
 }
 
-/// Draws so many rounds from a seed, plays each of them, and counts how they ended. Condition: they are at most 1,000.
+/// Draws so many rounds from a seed, plays each of them, and counts how they ended. Condition: they are at most `MOST_ROUNDS`.
 pub fn simulate(alloc: Global, seed: u64, rounds: u32) -> Result<Counts, NoMemory>
-    requires { rounds ≤ 1000 }
+    requires { rounds ≤ MOST_ROUNDS }
     ensures { IfOk result (λ counts. Simulates seed rounds counts) }
 {
     let mut generator = Generator::new(seed);

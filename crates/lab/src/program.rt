@@ -3,6 +3,7 @@
 ghost use Rattle.std.specs.Prelude.{◌≡◌, ◌≤◌, ◌++◌, ℕ, true, [], Ok, codes};
 ghost use Rattle.client_words.specs.Forms.{command_of};
 ghost use Rattle.client_words.specs.declared.command.Command.TheVariants.{Simulate};
+ghost use Rattle.client_words.specs.declared.command.TheConstants.{MOST_ROUNDS};
 ghost use Rattle.client_top.specs.Asked.{asked_at, command_word};
 ghost use Rattle.client_top.specs.Did.{Obeyed};
 ghost use Rattle.lab.specs.Top.{IsSimulation, SimulatedTo, counts_text};
@@ -38,7 +39,7 @@ fn line_of(counts: &Counts) -> Line
 
 /// Simulates, and tells the counts.
 fn tell_simulated<O: Sink>(alloc: Global, seed: u64, rounds: u32, out: &mut O) -> Status
-    requires { rounds ≤ 1000 }
+    requires { rounds ≤ MOST_ROUNDS }
     ensures { SimulatedTo seed rounds (O.means out.old) (O.means out.new) result }
 {
     match simulate(alloc, seed, rounds) {
