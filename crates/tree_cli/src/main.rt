@@ -102,3 +102,6 @@ fn main(rt: HostRuntime) -> ExitCode {
     say_first(&rt, &noted);
     ended
 }
+
+#[cfg(test)]
+mod tests;

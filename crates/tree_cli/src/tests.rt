@@ -1,12 +1,14 @@
 //! Words and specs, and the trees that are made of them.
 
-use crate::{Made, MemTree, PayloadList, PayloadSpec, TreeSpec, WriteFault, make, write_tree};
 use admit::admit;
 use io_model::{FileList, MemSource};
 use provides_map::{Clears, Provides, ValueList, Want, WantList};
 use script_names::{ScriptList, Site};
 use std::alloc::Global;
 use std::test::Fail;
+use tree_writer::{
+    Made, MemTree, PayloadList, PayloadSpec, TreeSpec, WriteFault, make, write_tree,
+};
 use upd_text::{CallList, Name, NoMemory};
 
 const NO_CALL: u64 = 1_000_000;
