@@ -432,10 +432,10 @@ does 0 'check tree' admitted ''
 
 begin progress
 tree tree release-2 app
-head -c 300000000 /dev/zero > tree/data/0000/app.bin
+truncate -s 1000000000 tree/data/0000/app.bin
 list tree
 CLIENT_PROGRESS=1 client check tree > out 2> err
-holds 'a long check says how far it is' 'grep -q "^[0-9]* of 286 MiB$" err && test "$(cat out)" = admitted'
+holds 'a long check says how far it is' 'grep -q "^[0-9]* of 953 MiB$" err && test "$(cat out)" = admitted'
 client check tree > out 2> err
 holds 'it says nothing unasked' 'test ! -s err'
 
