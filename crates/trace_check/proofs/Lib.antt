@@ -11,3 +11,17 @@ pub mod Chains
 pub mod Puts
 pub mod Exact
 pub mod Noted
+pub mod Spelled
+pub mod Lined
+pub mod Parted
+pub mod Sounds
+pub mod Backs
+pub mod Spoken
+pub mod Retold
+pub mod Cutting
+pub mod Rightly
+pub mod Onward
+pub mod Standing
+pub mod Whole
+pub mod Finds
+pub mod Checking

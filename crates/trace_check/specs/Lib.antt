@@ -5,3 +5,9 @@ pub mod Verdicts
 pub mod Form
 pub mod Texts
 pub mod Told
+pub mod Lines
+pub mod Stages
+pub mod Reads
+pub mod Finding
+pub mod Statuses
+pub mod Checked

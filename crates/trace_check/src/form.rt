@@ -57,7 +57,7 @@ fn calls_noted(kinds: &KindList, call: &Call) -> bool
     }
 }
 
-fn is_noted(kinds: &KindList, event: &Event) -> bool
+pub(crate) fn is_noted(kinds: &KindList, event: &Event) -> bool
     ensures { result ≡ is_noted kinds.now event.now }
 {
     match event {
@@ -74,7 +74,7 @@ fn are_noted(kinds: &KindList, events: &[Event]) -> bool
     events.iter().all(|event| is_noted(kinds, event))
 }
 
-fn lists_fit(head: &NoteHead, end: NoteEnd) -> bool
+pub(crate) fn lists_fit(head: &NoteHead, end: NoteEnd) -> bool
     ensures { result ≡ lists_fit head.now end }
 {
     match end {

@@ -18,7 +18,7 @@ use io_model::{Line, Sink, SinkFault};
 use script_names::{ScriptList, ScriptName};
 use upd_text::{KindList, Name, decimal};
 
-fn from_line(p: &Position) -> Line
+pub(crate) fn from_line(p: &Position) -> Line
     ensures { result ≡ from_line p.now }
 {
     let digits = decimal(u64::from(p.n));

@@ -1,5 +1,8 @@
 //! Boots in a row, their verdicts and their texts.
 
+mod reading;
+mod trees;
+
 ghost use Rattle.std.specs.Prelude.{◌≤◌, All, IfOk, length};
 ghost use Rattle.flow_table.specs.declared.table.TheConstants.{MOST_KINDS};
 

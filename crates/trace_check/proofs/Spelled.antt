@@ -1,0 +1,55 @@
+-- Lines that are spelled again, and compared.
+use Rattle.std.proofs.Common.{◌≡◌, ℕ, Bool, true, false, List, [], ◌∷◌, ◌++◌, refl, sym, ap, ◌∙◌}
+use Rattle.std.specs.Prelude.{◌==◌, ◌&&◌}
+use Rattle.std.specs.Str.{bytes_eq}
+use Rattle.std.proofs.lemmas.Bool.Decides.{Decides-eqb}
+use Rattle.std.proofs.lemmas.Slice.Eq.{bytes_eq-Decides}
+use Rattle.trace_check.specs.Lines.{is_line}
+use Rattle.trace_check.proofs.Same.{both-parts, and-made}
+
+nil-end : (xs : List ℕ) (b : ℕ) → [] ≡ xs ++ b ∷ [] → ⊥
+nil-end [] b e = cc
+nil-end (x ∷ xs) b e = cc
+
+pub same-ends : (xs ys : List ℕ) (a b : ℕ) → xs ++ a ∷ [] ≡ ys ++ b ∷ [] → (xs ≡ ys) × (a ≡ b)
+same-ends [] [] a b e = (refl, cc)
+same-ends [] (y ∷ ys) a b e = absurd (nil-end ys b cc)
+same-ends (x ∷ xs) [] a b e = absurd (nil-end xs a cc)
+same-ends (x ∷ xs) (y ∷ ys) a b e =
+    let heads : x ≡ y = cc in
+    let r = same-ends xs ys a b cc in
+    (let t = r.0 in cc, r.1)
+
+same-tests : (a b : Bool) → (a ≡ true → b ≡ true) → (b ≡ true → a ≡ true) → a ≡ b
+same-tests true b f g = sym (f refl)
+same-tests false true f g = g refl
+same-tests false false f g = refl
+
+line-ends : (told front text : List ℕ) (last : ℕ) → told ≡ front ++ last ∷ [] → ((last == 10) && bytes_eq front text) ≡ is_line told text
+line-ends told front text last is = same-tests ((last == 10) && bytes_eq front text) (is_line told text)
+    (λ h. let p = both-parts (last == 10) (bytes_eq front text) h in
+    let ten : last ≡ 10 = (Decides-eqb last 10).0 p.0 in
+    let same : front ≡ text = (bytes_eq-Decides front text).0 p.1 in
+    (bytes_eq-Decides told (text ++ 10 ∷ [])).1 (is ∙ ap (λ (l : List ℕ). l ++ last ∷ []) same ∙ ap (λ (b : ℕ). text ++ b ∷ []) ten))
+    (λ h. let r = same-ends front text last 10 (sym is ∙ (bytes_eq-Decides told (text ++ 10 ∷ [])).0 h) in
+    and-made (last == 10) (bytes_eq front text) ((Decides-eqb last 10).1 r.1) ((bytes_eq-Decides front text).1 r.0))
+
+not-equal : (a b : ℕ) (c : Bool) → (a == b) ≡ c → (a ≡ b → ⊥) → c ≡ false
+not-equal a b true is other = absurd (other ((Decides-eqb a b).0 is))
+not-equal a b false is other = refl
+
+pub ends-so : (told front text : List ℕ) (last : ℕ) → told ≡ front ++ last ∷ [] → last ≡ 10 → bytes_eq front text ≡ is_line told text
+ends-so told front text last is ten =
+    sym (ap (λ (b : Bool). b && bytes_eq front text) ((Decides-eqb last 10).1 ten)) ∙ line-ends told front text last is
+
+pub ends-else : (told front text : List ℕ) (last : ℕ) → told ≡ front ++ last ∷ [] → (last ≡ 10 → ⊥) → (last == 10) ≡ is_line told text
+ends-else told front text last is other =
+    let differs : (last == 10) ≡ false = not-equal last 10 (last == 10) refl other in
+    differs ∙ sym (ap (λ (b : Bool). b && bytes_eq front text) differs) ∙ line-ends told front text last is
+
+-- a line is the text with its newline
+pub line-is : (told text : List ℕ) → is_line told text ≡ true → told ≡ text ++ 10 ∷ []
+line-is told text h = (bytes_eq-Decides told (text ++ 10 ∷ [])).0 h
+
+pub is-the-line : (text : List ℕ) → is_line (text ++ 10 ∷ []) text ≡ true
+is-the-line text = (bytes_eq-Decides (text ++ 10 ∷ []) (text ++ 10 ∷ [])).1 refl
