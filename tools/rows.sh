@@ -99,6 +99,10 @@ tree_cli() {
     "$(program tree_cli)" "$@"
 }
 
+trace_cli() {
+    "$(program trace_cli)" "$@"
+}
+
 scenario() {
     "$(program scenario_cli)" "$@"
 }

@@ -225,6 +225,36 @@ tells 'cannot start 6'
 mkfifo payload/fifo
 ends 4 'a fifo among the files' tree_cli payload other-tree release-3 beaglebone app -
 
+# The checker of transcripts.
+mkdir notes
+ends 1 'no transcript' trace_cli notes
+says 'no trace'
+cp "$top/crates/trace_cli/data/folder/trace" whole
+cp whole notes/trace
+ends 0 'a boot as the flow has it' trace_cli notes
+says path
+sed '/^module 0 Cleanup$/d' whole > notes/trace
+ends 2 'an answer without a call' trace_cli notes
+says 'bad line 15'
+sed 's/^module 0 ArtifactCommit$/module 0 ArtifactRollback/' whole > notes/trace
+ends 3 'a rollback in the place of the commit' trace_cli notes
+says 'broken 0 8'
+cat whole whole > notes/trace
+ends 3 'a deployment that is over, from where it began' trace_cli notes
+says 'broken 1 0'
+truncate -s 33554433 notes/trace
+ends 4 'a transcript that is too long' trace_cli notes
+says 'too long 33554433'
+rm notes/trace
+mkfifo notes/trace
+ends 5 'a fifo' trace_cli notes
+says ''
+rm notes/trace
+ends 6 'a text that is not written' sh -c '"$1" notes > /dev/full' sh "$(program trace_cli)"
+ends 15 'no folder' trace_cli nowhere
+ends 15 'two folders' trace_cli notes notes
+tells 'usage: trace_cli FOLDER'
+
 # The signature of a manifest, by the key, the manifest and the signature of the program's stored run.
 signed_cli() {
     "$(program signed_cli)" "$@"

@@ -8,21 +8,21 @@ use std::process::ExitCode;
 use std::rt::Files;
 use trace_check::{TraceStatus, check_trace};
 
-/// Checks the folder that the first word names. What failed first is noted.
+/// The form of the words, which standard error lists where they are wrong.
+const FORM: &str = "usage: trace_cli FOLDER";
+
+/// Checks the transcript of a folder. What failed first is noted.
 fn obey<R: Files + Print + Drop>(
     rt: R,
     alloc: Global,
-    words: &[String],
+    folder: &str,
     noted: &mut Failures,
 ) -> Result<TraceStatus, HostFault>
 where
     R::File: FileExt,
 {
-    let [folder, ..] = words else {
-        return Err(HostFault::NoTree);
-    };
     let mut out = HostSink::new(&rt);
-    let mut source = HostSource::attach_noting(&rt, alloc, folder.as_str(), noted)?;
+    let mut source = HostSource::attach_noting(&rt, alloc, folder, noted)?;
     let status = check_trace(alloc, &mut source, &mut out);
     source.hand_first(noted);
     out.hand_first(noted);
@@ -35,7 +35,11 @@ fn run(rt: &HostRuntime, noted: &mut Failures) -> ExitCode {
         Ok(begun) => begun,
         Err(fault) => return cannot_start(rt, fault),
     };
-    match obey(rt, rt.alloc(), words.as_slice(), noted) {
+    let [folder] = words.as_slice() else {
+        let _ = eprintln!(rt; "{FORM}");
+        return cannot_start(rt, HostFault::NoTree);
+    };
+    match obey(rt, rt.alloc(), folder.as_str(), noted) {
         Ok(status) => ExitCode::from(status.number()),
         Err(fault) => cannot_start(rt, fault),
     }
