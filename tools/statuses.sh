@@ -234,8 +234,11 @@ cp whole notes/trace
 ends 0 'a boot as the flow has it' trace_cli notes
 says path
 sed '/^module 0 Cleanup$/d' whole > notes/trace
-ends 2 'an answer without a call' trace_cli notes
-says 'bad line 15'
+ends 3 'an answer without a call' trace_cli notes
+says 'broken 0 10'
+sed 's/^exit 0$/exit 00/' whole > notes/trace
+ends 2 'a number with a leading zero' trace_cli notes
+says 'bad line 5'
 sed 's/^module 0 ArtifactCommit$/module 0 ArtifactRollback/' whole > notes/trace
 ends 3 'a rollback in the place of the commit' trace_cli notes
 says 'broken 0 8'
