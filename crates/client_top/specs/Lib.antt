@@ -5,6 +5,7 @@ pub mod Answers
 pub mod Asked
 pub mod Did
 pub mod Steps
+pub mod Notes
 pub mod Promises
 pub mod Examples
 pub mod Waiting
