@@ -22,3 +22,9 @@ pub mod Rights
 pub mod Begun
 pub mod Says
 pub mod Rooms
+pub mod Copying
+pub mod Behind
+pub mod Before
+pub mod Formed
+pub mod Noting
+pub mod Heads

@@ -47,7 +47,7 @@ alike : (a : Option (List ℕ)) → StandsAlike a a
 alike None = tt
 alike (Some a) = λ d. ((λ h. h), (λ h. h))
 
-same-alike : (old new : State) → SameArea old new → StandsAlike (area_of old.disk) (area_of new.disk)
+pub same-alike : (old new : State) → SameArea old new → StandsAlike (area_of old.disk) (area_of new.disk)
 same-alike old new same = subst (λ (a : Option (List ℕ)). StandsAlike (area_of old.disk) a) (sym same) (alike (area_of old.disk))
 
 both-stand : (db : Db) (old new : Option Disk) → IfSome (area_of old) (λ a. Stands a db) → IfSome (area_of new) (λ a. Stands a db) → (IsTold old → IsTold new) → StandsAlike (area_of old) (area_of new)

@@ -37,7 +37,7 @@ pub data Started (c : Db) (e : Entry) (p : Position) : Type 0 where
   goes_on : (o : Order) → c ≡ Full e → first_of e.position o ≡ opening.Enter p → Started c e p
   begins : (plan : Admitted) → e ≡ begun c plan → p ≡ fresh_position → Started c e p
 
-opened : (e' e : Entry) (p : Position) (o : Opening) → opening_at e' o ≡ Starts e p → (e' ≡ e) × (o ≡ opening.Enter p)
+pub opened : (e' e : Entry) (p : Position) (o : Opening) → opening_at e' o ≡ Starts e p → (e' ≡ e) × (o ≡ opening.Enter p)
 opened e' e p (opening.Enter q) h = (cc, cc)
 opened e' e p opening.Stay h = absurd cc
 opened e' e p opening.NoUpdate h = absurd cc
@@ -62,11 +62,11 @@ after-large : (c : Db) (t : Tree) (plan : Admitted) (e : Entry) (b : Bool) (s : 
 after-large c t plan e true s h = absurd cc
 after-large c t plan e false s h = damaged (begun c plan) e (option_map PayloadDiffers (first_differing in_payload t (listed_of plan))) h
 
-after-head : (c : Db) (t : Tree) (e : Entry) (r : Result Admitted Refusal) → (unless_refused r >>= λ plan. unless_large (begun c plan) >>= unless_damaged t plan) ≡ Ok e → (plan : Admitted) × (e ≡ begun c plan) × (r ≡ Ok plan)
+pub after-head : (c : Db) (t : Tree) (e : Entry) (r : Result Admitted Refusal) → (unless_refused r >>= λ plan. unless_large (begun c plan) >>= unless_damaged t plan) ≡ Ok e → (plan : Admitted) × (e ≡ begun c plan) × (r ≡ Ok plan)
 after-head c t e (Ok plan) h = (plan, sym (after-large c t plan e (nat_lt LARGEST_RECORD (record_length (begun c plan))) _ h), refl)
 after-head c t e (Err r) h = absurd cc
 
-starting-at : (e : Entry) (p : Position) (r : Result Entry Status) → starting r ≡ Starts e p → (r ≡ Ok e) × (p ≡ fresh_position)
+pub starting-at : (e : Entry) (p : Position) (r : Result Entry Status) → starting r ≡ Starts e p → (r ≡ Ok e) × (p ≡ fresh_position)
 starting-at e p (Ok x) h = (cc, cc)
 starting-at e p (Err s) h = absurd cc
 

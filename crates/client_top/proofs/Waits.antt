@@ -79,7 +79,7 @@ never-checks : (site : Site) (content : Content) (c : Db) → in_tree content (�
 never-checks site (Untold n) c h = cc
 never-checks site (Told t) c h = never-weighing (checked site t c) h
 
-never-begins : (s : State) (site : Site) (content : Content) (c : Db) → beginning s site content c ≡ Stays → ⊥
+pub never-begins : (s : State) (site : Site) (content : Content) (c : Db) → beginning s site content c ≡ Stays → ⊥
 never-begins at.Idle site (Untold n) c h = cc
 never-begins at.Idle site (Told t) c h = never-starting (installed site t c) h
 never-begins s site content c h = cc

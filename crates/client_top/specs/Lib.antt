@@ -6,6 +6,8 @@ pub mod Asked
 pub mod Did
 pub mod Steps
 pub mod Notes
+pub mod Traced
+pub mod Looks
 pub mod Promises
 pub mod Examples
 pub mod Waiting

@@ -9,14 +9,14 @@ use crate::act::{Deed, act};
 use crate::show::show;
 use crate::status::{Good, Status};
 use crate::tell::tell;
-use client_words::{Command, UsageFault, data_dir, read_words};
+use client_words::{Command, UsageFault, data_dir, read_words, traced};
 use device_model::{Device, ROOM};
 use io_model::{Sink, Source};
 use script_names::Site;
 use std::alloc::Global;
 
 /// What is asked for. Nothing is simulated here: the word that says so, at this index, is no command.
-fn asked(command: Result<Command, UsageFault>, word: u32) -> Result<Command, UsageFault>
+pub(crate) fn asked(command: Result<Command, UsageFault>, word: u32) -> Result<Command, UsageFault>
     ensures { result ≡ asked_at word command }
 {
     match command {
@@ -26,17 +26,22 @@ fn asked(command: Result<Command, UsageFault>, word: u32) -> Result<Command, Usa
 }
 
 /// The index of the word of the command.
-fn command_word(words: &[String]) -> u32
+pub(crate) fn command_word(words: &[String]) -> u32
     ensures { result ≡ command_word words.now }
 {
-    match data_dir(words) {
+    let behind_dir = match data_dir(words) {
         Some(_) => 2,
         None => 0,
+    };
+    if traced(words) {
+        behind_dir + 1
+    } else {
+        behind_dir
     }
 }
 
 /// Does what is asked, and tells it.
-fn answer<S: Source, O: Sink, D: Device>(
+pub(crate) fn answer<S: Source, O: Sink, D: Device>(
     alloc: Global,
     asked: Result<Command, UsageFault>,
     site: &Site,

@@ -11,6 +11,7 @@ mod page;
 mod show;
 mod status;
 mod tell;
+mod trace;
 
 pub use call::{obey, run};
 pub use laws::{
@@ -20,3 +21,4 @@ pub use laws::{
     the_old_or_the_new_is_held, worked_answers, worked_finds,
 };
 pub use status::{Good, NotNow, Status};
+pub use trace::run_traced;
