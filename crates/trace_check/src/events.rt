@@ -4,9 +4,9 @@ ghost use Rattle.std.specs.Prelude.{◌≡◌, IfOk};
 ghost use Rattle.trace_check.specs.Lines.{called, called_in, run_in, bytes_in, reply_in, exit_in, pause_in, event_named, call_in, answer_in, event_in};
 
 use crate::form::is_noted;
-use crate::lines::{byte_in, is_line, name_in, number_in, split, tag};
+use crate::lines::{byte_in, name_in, number_in, split, tag};
+use crate::spelling::is_spelled;
 use device_model::{Answer, Call, Event, ModuleWord};
-use event_text::line_of;
 use hex::FromHexError;
 use std::alloc::Global;
 use upd_text::{KindList, Name, NoMemory, Text32};
@@ -152,7 +152,7 @@ pub(crate) fn event_in(
     ensures { IfOk result (λ event. event ≡ event_in kinds.now text.now) }
 {
     match call_in(alloc, kinds, text)? {
-        Some(event) if is_noted(kinds, &event) && is_line(&line_of(&event), text) => {
+        Some(event) if is_noted(kinds, &event) && is_spelled(&event, text) => {
             Ok(Some(event))
         }
         _ => Ok(None),

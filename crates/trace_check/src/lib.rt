@@ -11,6 +11,7 @@ mod lines;
 mod note;
 mod notes;
 mod read;
+mod spelling;
 mod stage;
 mod tell;
 mod verdict;
