@@ -25,3 +25,5 @@ pub mod Standing
 pub mod Whole
 pub mod Finds
 pub mod Checking
+pub mod Ending
+pub mod Knowing

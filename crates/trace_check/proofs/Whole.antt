@@ -142,7 +142,7 @@ goes-on text r rest l more k new so cut lack is = record {
   ran = then-run (Between, []) r so.lines (l ∷ []) so.ran ∙ ap (option_and_then (λ (s : Reading). run s [])) is;
 }
 
-lines-are : (text : List ℕ) (r : Reading) (rest : List ℕ) (k : ℕ) (so : SoFar text r rest k) → Ran (Between, []) so.lines r
+pub lines-are : (text : List ℕ) (r : Reading) (rest : List ℕ) (k : ℕ) (so : SoFar text r rest k) → Ran (Between, []) so.lines r
 lines-are text r rest k so = run-is (Between, []) so.lines r tt tt so.ran
 
 pub reads-all : (text : List ℕ) (notes : List Note) (rest : List ℕ) (k : ℕ) → SoFar text (Between, notes) rest k → rest ≡ [] → AreRead text notes
@@ -201,6 +201,10 @@ pub err-reads : (text : List ℕ) (result : Result (List Note) ReadFault) (fault
 err-reads text (Ok notes) fault is bad = absurd is
 err-reads text (Err (BadLine k)) fault is bad = bad k (sym is)
 err-reads text (Err NoMemory) fault is bad = tt
+
+pub fault-reads : (text : List ℕ) (fault : ReadFault) → ((k : ℕ) → fault ≡ BadLine k → IsBadLine text k) → Reads text (Err fault)
+fault-reads text (BadLine k) bad = bad k refl
+fault-reads text NoMemory bad = tt
 
 -- a note that is right has no more payload types than a deployment may
 few-of : (n : Note) → IsRight n → length n.head.kinds ≤ 8

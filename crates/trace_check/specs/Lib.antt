@@ -11,3 +11,4 @@ pub mod Reads
 pub mod Finding
 pub mod Statuses
 pub mod Checked
+pub mod Weighing

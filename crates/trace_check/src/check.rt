@@ -3,12 +3,11 @@
 ghost use Rattle.std.specs.Prelude.{◌≡◌, ◌≤◌, length, Some, IfOk, IfErr};
 ghost use Rattle.io_model.specs.Source.{When};
 ghost use Rattle.trace_check.specs.Finding.{Stops, faults_after, trace_of};
-ghost use Rattle.trace_check.specs.Checked.{Weighed, Finds, CheckedTo};
+ghost use Rattle.trace_check.specs.Checked.{Finds, CheckedTo};
 ghost use Rattle.trace_check.specs.Statuses.{status_text, number_of_status, is_said};
 
 use crate::finding::{find_trace, read_file};
-use crate::notes::{ReadFault, read_notes};
-use crate::verdict::{Verdict, judge};
+use crate::weigh::weigh;
 use io_model::{Line, Sink, Source};
 use std::alloc::Global;
 use upd_text::decimal;
@@ -109,21 +108,6 @@ fn read_trace<S: Source>(alloc: Global, source: &mut S) -> Result<Vec<u8>, Trace
         Ok(Some(i)) => read_file(alloc, source, i),
         Ok(None) => Err(TraceStatus::NoTrace),
         Err(_) => Err(TraceStatus::SourceFault),
-    }
-}
-
-/// What is answered of them.
-fn weigh(alloc: Global, text: &[u8]) -> TraceStatus
-    requires { length text.now ≤ LONGEST_TRACE }
-    ensures { Weighed text.now result }
-{
-    match read_notes(alloc, text) {
-        Ok(notes) => match judge(&notes) {
-            Verdict::Path => TraceStatus::Path,
-            Verdict::Broken { note, event } => TraceStatus::Broken { note, event },
-        },
-        Err(ReadFault::BadLine(k)) => TraceStatus::BadLine(k),
-        Err(ReadFault::NoMemory) => TraceStatus::NoMemory,
     }
 }
 

@@ -152,9 +152,7 @@ pub(crate) fn event_in(
     ensures { IfOk result (λ event. event ≡ event_in kinds.now text.now) }
 {
     match call_in(alloc, kinds, text)? {
-        Some(event) if is_noted(kinds, &event) && is_spelled(&event, text) => {
-            Ok(Some(event))
-        }
+        Some(event) if is_noted(kinds, &event) && is_spelled(&event, text) => { Ok(Some(event)) }
         _ => Ok(None),
     }
 }

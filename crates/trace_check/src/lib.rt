@@ -16,6 +16,7 @@ mod stage;
 mod tell;
 mod verdict;
 mod way;
+mod weigh;
 mod words;
 
 pub use check::{LONGEST_TRACE, TraceStatus, check_trace};

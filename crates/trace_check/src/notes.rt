@@ -20,7 +20,7 @@ pub enum ReadFault {
 }
 
 /// The first line of a text, without its newline, and what stands behind it.
-fn first_line(text: &[u8]) -> Option<(&[u8], &[u8])>
+pub(crate) fn first_line(text: &[u8]) -> Option<(&[u8], &[u8])>
     ensures { MatchOption result (lacks 10 text.now ≡ true) (λ p. (text.now ≡ p.0.now ++ 10 ∷ p.1.now) × (lacks 10 p.0.now ≡ true)) }
 {
     match mark_at(text, b'\n') {
@@ -29,14 +29,14 @@ fn first_line(text: &[u8]) -> Option<(&[u8], &[u8])>
     }
 }
 
-fn is_between(stage: &Stage) -> bool
+pub(crate) fn is_between(stage: &Stage) -> bool
     ensures { IsTrue result ↔ (stage.now ≡ Stage.Between) }
 {
     matches!(stage, Stage::Between)
 }
 
 /// What the line with this number, counted from 1, leads to.
-fn read_line(
+pub(crate) fn read_line(
     alloc: Global,
     stage: Stage,
     notes: &mut NoteList,

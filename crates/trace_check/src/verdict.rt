@@ -180,7 +180,7 @@ fn ran_fault(head: &NoteHead, events: &[Event], end: NoteEnd) -> Option<usize>
 }
 
 /// The first event that can't come where the note tells of no boot, or the number of its events where only its end can't.
-fn fault_of(note: &Note) -> Option<u32>
+pub(crate) fn fault_of(note: &Note) -> Option<u32>
     requires kinds { length note.now.head.kinds ≤ MOST_KINDS }
     ensures none { result ≡ None → (p : A_position) × Follows note.now p }
     ensures some { (e : ℕ) → result ≡ Some e → BreaksAt note.now e × ((p : A_position) → Follows note.now p → ⊥) }
@@ -256,7 +256,7 @@ fn may_differ(before: &Note, note: &Note) -> bool
 }
 
 /// Whether the note goes on from the one before it.
-fn goes_on(before: &Note, note: &Note) -> bool
+pub(crate) fn goes_on(before: &Note, note: &Note) -> bool
     requires kinds { length before.now.head.kinds ≤ MOST_KINDS }
     ensures { IsTrue result ↔ GoesFrom (Some before.now) note.now }
 {
