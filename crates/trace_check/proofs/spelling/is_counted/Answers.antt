@@ -1,7 +1,5 @@
 use Rattle.std.proofs.Common.{◌∙◌, ap, sym, List, ℕ, ◌++◌, ◌∷◌}
 use Rattle.std.specs.Fmt.{decimal}
-use Rattle.std.specs.Prelude.{None, Some}
-use Rattle.std.specs.Str.{bytes_eq}
 use Rattle.trace_check.specs.Lines.{tag}
 use Rattle.trace_check.proofs.Spelled.{joined-so, joined-else}
 use Rattle.trace_check.proofs.spelling.is_counted.Goals as goal

@@ -1,6 +1,5 @@
 use Rattle.std.proofs.Common.{◌∙◌, ap, sym, List, ℕ}
 use Rattle.device_model.specs.declared.calls.Answer.{Answer}
-use Rattle.device_model.specs.declared.calls.Event.{Event}
 use Rattle.device_model.specs.declared.calls.Event.TheVariants.{End}
 use Rattle.event_text.specs.Lines.{answer_text, line}
 use Rattle.trace_check.specs.Lines.{is_line}

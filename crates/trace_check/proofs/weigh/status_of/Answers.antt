@@ -1,4 +1,4 @@
-use Rattle.std.proofs.Common.{subst, List, ℕ}
+use Rattle.std.proofs.Common.{subst}
 use Rattle.std.specs.Prelude.{Err}
 use Rattle.trace_check.specs.declared.notes.ReadFault.{ReadFault}
 use Rattle.trace_check.specs.Reads.{Reads}

@@ -1,6 +1,5 @@
-use Rattle.std.proofs.Common.{◌≡◌, ◌∙◌, ◌<◌, ◌≤◌, ◌+◌, sym, ap, subst, refl, arith, length, length-append, ℕ, List, [], ◌∷◌, ◌++◌, true, false}
-use Rattle.std.specs.Prelude.{Err, Option, Some, None, ◌==◌}
-use Rattle.trace_check.specs.declared.note.Note.{Note}
+use Rattle.std.proofs.Common.{◌≡◌, ◌∙◌, sym, ap, subst, refl, arith, length, length-append, ℕ, List, [], ◌∷◌, ◌++◌, true, false}
+use Rattle.std.specs.Prelude.{Err, ◌==◌}
 use Rattle.trace_check.specs.declared.notes.ReadFault.{ReadFault}
 use Rattle.trace_check.specs.declared.stage.Stage.{Stage}
 use Rattle.trace_check.specs.declared.stage.Stage.TheVariants.{Between}

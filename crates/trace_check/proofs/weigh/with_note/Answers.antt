@@ -1,6 +1,5 @@
-use Rattle.std.proofs.Common.{refl, subst, List}
+use Rattle.std.proofs.Common.{refl, subst}
 use Rattle.std.specs.List.{slice_get}
-use Rattle.trace_check.specs.declared.note.Note.{Note}
 use Rattle.trace_check.specs.declared.verdict.Verdict.{Verdict}
 use Rattle.trace_check.specs.Verdicts.{Judged}
 use Rattle.trace_check.proofs.Knowing.{still-broken, with-more, with-fault}
