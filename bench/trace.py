@@ -12,18 +12,29 @@ import tempfile
 
 SIZE = 30_000_000
 HEAD = "boot install\nfrom Idle Undecided 0 No 0\nkind single-file\n"
-NONE = "boot resume\nfrom Idle Undecided 0 No 0\nend none\n"
 SITE = [f"Download_Enter_{i:02}" for i in range(64)]
 AGAIN = "".join(f"run {name}\nexit 21\npause 60\n" * 30 + f"run {name}\nexit 0\n" for name in SITE)
 
-# A way of boots in each of which nothing was done; boots with 5,888 events, each cut off behind them; notes with 900 short lines
-# each that no boot may do; and the same in one note.
+TRIPLE = "module 0 Download\nexit 0\npause 1\n"
+
+# What a note begins with, a part of its events, how often that comes, and its end: boots in each of which nothing was done, which are
+# a way; boots with 5,888 events, each cut off behind them; notes with 900 short lines each that no boot may do; and one such note.
 KINDS = {
-    "few events": NONE,
-    "retries": HEAD + "".join(f"site {name}\n" for name in SITE) + AGAIN + "end halted\n",
-    "dense": HEAD + "module 0 Download\nexit 0\npause 1\n" * 300 + "end halted\n",
-    "one note": HEAD + "module 0 Download\nexit 0\npause 1\n" * (SIZE // 33 - 10) + "end halted\n",
+    "few events": ("boot resume\nfrom Idle Undecided 0 No 0\n", "", 0, "end none\n"),
+    "retries": (HEAD + "".join(f"site {name}\n" for name in SITE), AGAIN, 1, "end halted\n"),
+    "dense": (HEAD, TRIPLE, 300, "end halted\n"),
+    "one note": (HEAD, TRIPLE, SIZE // len(TRIPLE) - 10, "end halted\n"),
 }
+
+
+def write_notes(path, front, part, count, end):
+    """Writes notes of SIZE bytes, piece by piece: the peak of a child counts what this process holds when it starts."""
+    with open(path, "w") as trace:
+        for _ in range(SIZE // (len(front) + len(part) * count + len(end))):
+            trace.write(front)
+            for _ in range(count):
+                trace.write(part)
+            trace.write(end)
 
 
 def run(words):
@@ -42,8 +53,7 @@ def main():
     for kind, note in KINDS.items():
         with tempfile.TemporaryDirectory() as folder:
             path = os.path.join(folder, "trace")
-            with open(path, "w") as trace:
-                trace.write(note * (SIZE // len(note)))
+            write_notes(path, *note)
             time, peak, answer = min(run([program, folder]) for _ in range(runs))
             beside = sum(min(run(words)[0] for _ in range(runs)) for words in (["wc", "-l", path], ["sha256sum", path]))
             print(f"{kind}: {time:.2f} s beside {beside:.2f} s, {peak:.0f} MB for {os.path.getsize(path) / 1e6:.0f} MB: {answer}")

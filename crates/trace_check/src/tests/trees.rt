@@ -38,7 +38,10 @@ fn trees_are_checked(rt: HostRuntime) -> Result<(), Fail> {
     let alloc = rt.alloc();
     let well = format!(in alloc; "{UP_TO_COMMIT}module 0 ArtifactCommit\nexit 0\n{CLEANUP}")?;
     let broken = format!(in alloc; "{UP_TO_COMMIT}{CLEANUP}")?;
+    let unread = format!(in alloc; "{broken}boot\n")?;
+    let again = format!(in alloc; "{well}{broken}")?;
     let at_eight = TraceStatus::Broken { note: 0, event: 8 };
+    let apart = TraceStatus::Broken { note: 1, event: 0 };
     let rows = [
         ("a", "trace", "b", TraceStatus::NoTrace, "no trace\n"),
         ("a", "x", "trace", TraceStatus::Path, "path\n"),
@@ -51,6 +54,14 @@ fn trees_are_checked(rt: HostRuntime) -> Result<(), Fail> {
             "bad line 1\n",
         ),
         ("trace", broken.as_str(), "b", at_eight, "broken 0 8\n"),
+        (
+            "trace",
+            unread.as_str(),
+            "b",
+            TraceStatus::BadLine(15),
+            "bad line 15\n",
+        ),
+        ("trace", again.as_str(), "b", apart, "broken 1 0\n"),
     ];
     for (path, text, other, wanted, told) in rows {
         let (status, sink) = checked(alloc, (path, text), (other, ""), CallList::new(alloc))?;
