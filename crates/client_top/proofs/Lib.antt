@@ -28,3 +28,4 @@ pub mod Before
 pub mod Formed
 pub mod Noting
 pub mod Heads
+pub mod Noted

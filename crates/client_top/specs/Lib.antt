@@ -8,6 +8,7 @@ pub mod Steps
 pub mod Notes
 pub mod Traced
 pub mod Looks
+pub mod NoteHeads
 pub mod Promises
 pub mod Examples
 pub mod Waiting

@@ -17,10 +17,15 @@ ghost use Rattle.record_codec.specs.declared.entry.Db.{Db};
 ghost use Rattle.record_codec.specs.Held.{position_of};
 ghost use Rattle.record_codec.specs.Spelling.{IsRight, IfFull};
 ghost use Rattle.slot_store.specs.Slots.{May, Stands};
+ghost use Rattle.client_words.specs.declared.command.Command.{Command as Word};
+ghost use Rattle.trace_check.specs.declared.note.NoteHead.{NoteHead};
+ghost use Rattle.trace_check.specs.Follows.{Did as MayDo};
 ghost use Rattle.client_top.specs.Finds.{Request, Found, Answers, Starts, finds};
 ghost use Rattle.client_top.specs.Boot.{Boot, Fits};
 ghost use Rattle.client_top.specs.Answers.{row_of, end_of, deploys};
 ghost use Rattle.client_top.specs.Did.{Did, Shelf, prepares};
+ghost use Rattle.client_top.specs.Notes.{end_noted};
+ghost use Rattle.client_top.specs.NoteHeads.{IsHead};
 ghost use Rattle.client_top.specs.Promises.{IsUntied, Replies, Calm, Fulfils, IsOver, IsWell, Holds, TellsHeld, IsGiven, answer_for};
 ghost use Rattle.client_top.specs.Examples.{Numbers, Ends, Texts, OverNothing, InProgresses, Ids};
 
@@ -122,6 +127,14 @@ pub fn first_children_are_given_the_folder()
         → (did : Did asked (Some c) status old new source source_after)
         → prepares asked (Some c) ≡ true → has_start did.events ≡ true
         → ((plan : Admitted) × Fits asked c plan × IfSome new.work (IsGiven asked c plan)) }
+{}
+
+/// A note with the head of a boot and its end tells of a boot that the flow has: from where the database stood it leads, with the
+/// boot's events, to where the database stands.
+pub fn notes_tell_of_boots()
+    ensures { (asked : Request) (word : Word) (c d : Db) (events : List Event) (end : Option End) (head : NoteHead)
+        → asked.command ≡ Ok word → Boot asked c events end d → IsHead asked.site word c end d head
+        → MayDo head events (end_noted end) (position_of d) }
 {}
 
 /// Worked answers.
