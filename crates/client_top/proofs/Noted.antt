@@ -14,7 +14,7 @@ use Rattle.flow_table.specs.declared.table.Opening.TheVariants as opening
 use Rattle.flow_table.specs.declared.table.Order.{Order}
 use Rattle.flow_table.specs.declared.table.Order.TheVariants as order
 use Rattle.flow_table.specs.Table.{first_of, fresh_position}
-use Rattle.flow_words.specs.Pieces.{End, Waits, Halted, Pieces}
+use Rattle.flow_words.specs.Pieces.{End, Pieces}
 use Rattle.flow_words.specs.Words.{Callees, word_at}
 use Rattle.flow_drive.specs.Calls.{callees}
 use Rattle.flow_drive.specs.Drive.{Leads, at}

@@ -26,3 +26,4 @@ pub mod Fitting
 pub mod Longest
 pub mod Halted
 pub mod SameBoot
+pub mod Chaining

@@ -3,6 +3,7 @@ pub mod Path
 pub mod Campaign
 pub mod Bound
 pub mod Holding
+pub mod Noted
 pub mod Draws
 pub mod Trees
 pub mod Cuts

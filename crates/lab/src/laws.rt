@@ -8,6 +8,8 @@ ghost use Rattle.io_model.specs.MemSource.{Shelf};
 ghost use Rattle.device_model.specs.Disk.{Disk, unmarked};
 ghost use Rattle.slot_store.specs.Slots.{May};
 ghost use Rattle.device_mem.specs.MemState.{MemState};
+ghost use Rattle.trace_check.specs.declared.note.Note.{Note};
+ghost use Rattle.trace_check.specs.Follows.{Chain};
 ghost use Rattle.client_words.specs.declared.command.Command.{Command};
 ghost use Rattle.client_words.specs.declared.command.Command.TheVariants.{Install, Resume};
 ghost use Rattle.script_names.specs.declared.site.Site.{Site};
@@ -23,6 +25,7 @@ ghost use Rattle.lab.specs.declared.runs.BootRun.{BootRun as Run};
 ghost use Rattle.lab.specs.Bound.{IsResume, HasResumes, EndsWithin};
 ghost use Rattle.lab.specs.Path.{Step, Path};
 ghost use Rattle.lab.specs.Campaign.{Campaigned, events_of};
+ghost use Rattle.lab.specs.Noted.{Noted, LedNoted};
 ghost use Rattle.lab.specs.Holding.{HeldAfter, ToldAfter, TellNone};
 ghost use Rattle.client_top.specs.Answers.{end_of};
 ghost use Rattle.client_top.specs.Promises.{IsOver};
@@ -55,6 +58,22 @@ pub fn answers_tell_what_is_held()
         → Path site content Empty runs c → Step site content c run m → IsOver (end_of run.status)
         → Path site content m looks d → TellNone looks
         → ToldAfter site content (runs ++ run ∷ []) run.status d }
+{}
+
+/// The notes of boots in a row are a chain, boots that were cut off included: each tells of a boot that the flow has, and the next
+/// one goes on where it left the database. The boots that are noted are a path, and each path has notes. So for each database
+/// that may stand after a campaign the boots led to it from one that could stand before, and their notes, which begin where the
+/// databases between stood, are a chain.
+pub fn notes_are_a_chain()
+    ensures chain { (site : Site) (content : Content) (c d : Db) (runs : List Run) (notes : List Note)
+        → Noted site content c runs d notes → Chain notes }
+    ensures path { (site : Site) (content : Content) (c d : Db) (runs : List Run) (notes : List Note)
+        → Noted site content c runs d notes → Path site content c runs d }
+    ensures noted { (site : Site) (content : Content) (c d : Db) (runs : List Run) → Path site content c runs d
+        → ((notes : List Note) × Noted site content c runs d notes) }
+    ensures campaigns { (site : Site) (boots : List Command) (old new : MemState) (source source_after : Shelf) (runs : List Run) (d : Db)
+        → Campaigned site boots old new source source_after runs → May new.device.disk d
+        → LedNoted site (Told source.tree) old.device.disk runs d }
 {}
 
 /// A resume that finds a deployment which hasn't ended, and that no loss, no fault and no want of memory hinders, ends it or

@@ -14,8 +14,8 @@ pub use boots::campaign;
 pub use counts::Counts;
 pub use draws::{Generator, Round};
 pub use laws::{
-    answers_tell_what_is_held, losses_come_from_cuts, resumes_end_a_deployment, rounds_are_short,
-    simulations_add_up, the_old_or_the_new_is_held,
+    answers_tell_what_is_held, losses_come_from_cuts, notes_are_a_chain, resumes_end_a_deployment,
+    rounds_are_short, simulations_add_up, the_old_or_the_new_is_held,
 };
 pub use play::simulate;
 pub use program::top;
