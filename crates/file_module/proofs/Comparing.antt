@@ -27,7 +27,9 @@ compared_more saved target at count le before next =
     ∙ piece_more target 0 (at - 1) count (omega arith)
     ∙ ap (λ (n : ℕ). piece 0 n target) count_is
 
-pub compared_step : (old mid : Contents) (same : Bool) (at count n : ℕ) → 1 ≤ at → mid ≡ old → same ≡ true → n ≡ count → piece 1 (at - 1) old.saved ≡ piece 0 (at - 1) old.target → MatchBool same (piece at n mid.saved ≡ piece (at - 1) n mid.target) (piece at n mid.saved ≢ piece (at - 1) n mid.target) → piece 1 (at + count - 1) old.saved ≡ piece 0 (at + count - 1) old.target
+pub compared_step : (old mid : Contents) (same : Bool) (at count n : ℕ) → 1 ≤ at → mid ≡ old → same ≡ true → n ≡ count → piece 1 (at - 1) old.saved ≡ piece 0 (at - 1) old.target
+    → MatchBool same (piece at n mid.saved ≡ piece (at - 1) n mid.target) (piece at n mid.saved ≢ piece (at - 1) n mid.target)
+    → piece 1 (at + count - 1) old.saved ≡ piece 0 (at + count - 1) old.target
 compared_step old mid false at count n le still is long before next = absurd (cc)
 compared_step old mid true at count n le still is long before next =
     let here : piece at n old.saved ≡ piece (at - 1) n old.target = subst (λ (m : Contents). piece at n m.saved ≡ piece (at - 1) n m.target) still next in

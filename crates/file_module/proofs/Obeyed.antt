@@ -1,6 +1,7 @@
 -- What a word does, from what its steps do.
-use Rattle.std.proofs.Common.{◌≡◌, inl, inr, ⊎_elim, ◌⊎◌, ℕ, zero, suc, ◌<◌, ◌≤◌, get_or, take, true, false, List, [], ◌∷◌, length, refl, sym, ◌∙◌, ap, subst, arith}
-use Rattle.std.specs.Prelude.{Option, Some, None, Ok, Err, option_map}
+use Rattle.std.proofs.Common.{◌≡◌, ◌≢◌, inl, inr, ⊎_elim, ◌⊎◌, ℕ, zero, suc, ◌<◌, ◌≤◌, get_or, take, Bool, true, false, List, [], ◌∷◌, length, refl, sym, ◌∙◌, ap, subst, arith}
+use Rattle.std.specs.Prelude.{◌||◌, Option, Some, None, Ok, Err, option_map}
+use Rattle.device_model.specs.How.{How, Through}
 use Rattle.device_model.specs.declared.calls.ModState.TheVariants.{Download, ArtifactInstall, ArtifactRollback}
 use Rattle.device_model.specs.declared.module_word.ModuleWord.TheVariants.{State}
 use Rattle.io_model.specs.Source.{Content, bytes_at}
@@ -12,10 +13,10 @@ use Rattle.file_module.specs.declared.answer.Stop.TheVariants as stop
 use Rattle.file_module.specs.Contents.{Contents, InContent, IsThere, WhenTold}
 use Rattle.file_module.specs.Calls.{Gives}
 use Rattle.file_module.specs.Copying.{rest}
-use Rattle.file_module.specs.Answers.{Counts, TouchesFresh, SetsSaved, SetsTarget, Replaces, GivesBack, Untouched, IsOfPlace, IsOfWriting, stopped_by}
+use Rattle.file_module.specs.Answers.{Counts, TouchesFresh, SetsSaved, Replaces, GivesBack, Unchanged, Untouched, IsOfPlace, IsOfWriting, stopped_by, row_of, how_of, may_answer, is_on, losses_after, faults_after}
 use Rattle.file_module.specs.Payload.{When, IsPayload, Finds, payloads}
 use Rattle.file_module.specs.Saved.{Kept, IsNew, IsBad, HasHead, head_of, spelling, saved_after, meant_by, rolled_back}
-use Rattle.file_module.specs.FileActs.{Clears, Downloads, Installs, RollsBack, NeedsOne, BadPayloadIs, CountsPayloads, may_answer}
+use Rattle.file_module.specs.FileActs.{Clears, Downloads, Installs, GivesSaved, FindsBad, RollsBack, Seeks, NeedsOne, CountsPayloads}
 use Rattle.file_module.proofs.Installing.{kept_saving, kept_installing}
 use Rattle.file_module.proofs.Touches.{counts_then, done_or_not}
 
@@ -50,125 +51,99 @@ needs_stopped (Told t) stop.DiskFault h = absurd h
 needs_stopped (Told t) stop.Off h = absurd h
 needs_stopped (Told t) stop.BadSaved h = absurd h
 
-bad_stopped : (files : Content) (s : Stop) (m : Contents) → Finds files (Err s) → BadPayloadIs files (stopped_by s) m m
-bad_stopped files (stop.BadPayload k) m h n e =
-    let same : k ≡ n = cc in
-    subst (λ (j : ℕ). CountsPayloads files j m m) same (record { not_one = h.0; number = h.1; same = refl })
-bad_stopped files stop.SourceFault m h n e = absurd (cc)
-bad_stopped files stop.DiskFault m h n e = absurd h
-bad_stopped files stop.Off m h n e = absurd h
-bad_stopped files stop.BadSaved m h n e = absurd h
+seeks_stopped : (files : Content) (s : Stop) (m : Contents) → Finds files (Err s) → Seeks files (stopped_by s) m m
+seeks_stopped files s m h = record { bad_payload = bad s h; needs_one = needs_stopped files s h }
+  where
+    bad : (s : Stop) → Finds files (Err s) → (n : ℕ) → stopped_by s ≡ act.BadPayload n → CountsPayloads files n m m
+    bad (stop.BadPayload k) h n e = let same : k ≡ n = cc in subst (λ (j : ℕ). CountsPayloads files j m m) same (record { not_one = h.0; number = h.1; same = refl })
+    bad stop.SourceFault h n e = absurd (cc)
+    bad stop.DiskFault h n e = absurd h
+    bad stop.Off h n e = absurd h
+    bad stop.BadSaved h n e = absurd h
 
-counts_stopped : (files : Content) (s : Stop) (m : Contents) → m.on ≡ true → Finds files (Err s) → Counts (stopped_by s) m m
-counts_stopped files (stop.BadPayload k) m on h = record { on = on; told = refl; regular = refl; losses = refl; faults = refl }
-counts_stopped files stop.SourceFault m on h = record { on = on; told = refl; regular = refl; losses = refl; faults = refl }
-counts_stopped files stop.DiskFault m on h = absurd h
-counts_stopped files stop.Off m on h = absurd h
-counts_stopped files stop.BadSaved m on h = absurd h
+-- a search that stops has called nothing of the place
+unfound : (files : Content) (s : Stop) → Finds files (Err s) → (how_of (stopped_by s) ≡ Through) × (may_answer (State Download) (stopped_by s) ≡ true)
+unfound files (stop.BadPayload k) h = (refl, refl)
+unfound files stop.SourceFault h = (refl, refl)
+unfound files stop.DiskFault h = absurd h
+unfound files stop.Off h = absurd h
+unfound files stop.BadSaved h = absurd h
 
-download_may : (files : Content) (s : Stop) → Finds files (Err s) → may_answer (State Download) (stopped_by s) ≡ true
-download_may files (stop.BadPayload k) h = refl
-download_may files stop.SourceFault h = refl
-download_may files stop.DiskFault h = absurd h
-download_may files stop.Off h = absurd h
-download_may files stop.BadSaved h = absurd h
+counts_still : (a : FileAct) (m : Contents) → how_of a ≡ Through → m.on ≡ true → Counts a m m
+counts_still a m through on = record {
+  on = on ∙ sym (ap is_on through);
+  told = refl;
+  regular = refl;
+  losses = sym (ap (λ (h : How). losses_after h m.losses) through);
+  faults = sym (ap (λ (h : How). faults_after h m.faults) through);
+}
 
-install_may : (files : Content) (s : Stop) → Finds files (Err s) → may_answer (State ArtifactInstall) (stopped_by s) ≡ true
-install_may files (stop.BadPayload k) h = refl
-install_may files stop.SourceFault h = refl
-install_may files stop.DiskFault h = absurd h
-install_may files stop.Off h = absurd h
-install_may files stop.BadSaved h = absurd h
+unchanged : (a : FileAct) (m : Contents) → how_of a ≡ Through → Untouched a m m
+unchanged a m through = subst (λ (h : How). Unchanged h m m) (sym through) refl
 
 -- an answer after the payload was found says nothing of a number of files
 abbrev NoNumber : FileAct → Type 0
 NoNumber a = (n : ℕ) → a ≡ act.BadPayload n → ⊥
 
-no_number : (s : Stop) → IsOfWriting s → NoNumber (stopped_by s)
-no_number (stop.BadPayload k) h n e = absurd h
-no_number stop.SourceFault h n e = cc
-no_number stop.DiskFault h n e = cc
-no_number stop.Off h n e = cc
-no_number stop.BadSaved h n e = absurd h
+seeks_found : (files : Content) (i : ℕ) (a : FileAct) (old new : Contents) → Finds files (Ok i) → NoNumber a → Seeks files a old new
+seeks_found files i a old new h none = record { bad_payload = λ n e. absurd (none n e); needs_one = needs_found files i a h.1 }
+
+-- the answers of an installation that has found the payload
+wrote : (s : Stop) → IsOfWriting s → NoNumber (stopped_by s) × (may_answer (State ArtifactInstall) (stopped_by s) ≡ true)
+wrote (stop.BadPayload k) h = absurd (cc)
+wrote stop.SourceFault h = ((λ n e. cc), refl)
+wrote stop.DiskFault h = ((λ n e. cc), refl)
+wrote stop.Off h = ((λ n e. cc), refl)
+wrote stop.BadSaved h = absurd (cc)
 
 of_writing : (s : Stop) → IsOfPlace s → IsOfWriting s
-of_writing (stop.BadPayload k) h = absurd h
-of_writing stop.SourceFault h = absurd h
-of_writing stop.DiskFault h = tt
-of_writing stop.Off h = tt
-of_writing stop.BadSaved h = absurd h
-
-may_write : (s : Stop) → IsOfWriting s → may_answer (State ArtifactInstall) (stopped_by s) ≡ true
-may_write (stop.BadPayload k) h = absurd h
-may_write stop.SourceFault h = refl
-may_write stop.DiskFault h = refl
-may_write stop.Off h = refl
-may_write stop.BadSaved h = absurd h
-
-may_clear : (s : Stop) → IsOfPlace s → may_answer (State Download) (stopped_by s) ≡ true
-may_clear (stop.BadPayload k) h = absurd h
-may_clear stop.SourceFault h = absurd h
-may_clear stop.DiskFault h = refl
-may_clear stop.Off h = refl
-may_clear stop.BadSaved h = absurd h
-
--- nothing was called
-unchanged : (files : Content) (s : Stop) (m : Contents) → Finds files (Err s) → Untouched (stopped_by s) m m
-unchanged files (stop.BadPayload k) m h = refl
-unchanged files stop.SourceFault m h = refl
-unchanged files stop.DiskFault m h = absurd h
-unchanged files stop.Off m h = absurd h
-unchanged files stop.BadSaved m h = absurd h
+of_writing s h = ap (λ (b : Bool). b || (row_of (stopped_by s)).of_source) h
 
 -- ---- Download
 
 pub downloads_none : (files : Content) (s : Stop) (m : Contents) → m.on ≡ true → Finds files (Err s) → Downloads files (stopped_by s) m m
 downloads_none files s m on h = record {
-  clears = record { counts = counts_stopped files s m on h; target = refl; saved = λ e. absurd (done_or_not s e); fresh = λ e. absurd (done_or_not s e) };
-  answers = download_may files s h;
+  clears = record { counts = counts_still (stopped_by s) m (unfound files s h).0 on; target = refl; saved = λ e. absurd (done_or_not s e); fresh = λ e. absurd (done_or_not s e) };
+  answers = (unfound files s h).1;
   kept = λ e. absurd (done_or_not s e);
-  bad_payload = bad_stopped files s m h;
-  needs_one = needs_stopped files s h;
-  irregular = λ told e. ((λ d. done_or_not s d), unchanged files s m h);
+  seeks = seeks_stopped files s m h;
+  irregular = λ told e. ((λ d. done_or_not s d), unchanged (stopped_by s) m (unfound files s h).0);
 }
 
 -- it stopped while it looked at the target
 pub downloads_unseen : (files : Content) (i : ℕ) (s : Stop) (old new : Contents) → Finds files (Ok i) → IsOfPlace s → TouchesFresh (stopped_by s) old new → Untouched (stopped_by s) old new → Downloads files (stopped_by s) old new
 downloads_unseen files i s old new h cause touches untouched = record {
   clears = record { counts = touches.counts; target = touches.target; saved = λ e. absurd (done_or_not s e); fresh = λ e. absurd (done_or_not s e) };
-  answers = may_clear s cause;
+  answers = (wrote s (of_writing s cause)).1;
   kept = λ e. absurd (done_or_not s e);
-  bad_payload = λ n e. absurd (no_number s (of_writing s cause) n e);
-  needs_one = needs_found files i (stopped_by s) h.1;
+  seeks = seeks_found files i (stopped_by s) old new h (wrote s (of_writing s cause)).0;
   irregular = λ told e. ((λ d. done_or_not s d), untouched);
 }
 
 pub downloads_found : (files : Content) (i : ℕ) (old new : Contents) → Finds files (Ok i) → WhenTold old (old.regular ≡ true) → Clears act.Done old new → Downloads files act.Done old new
-downloads_found files i old new h regular clears = record { irregular = λ told e. absurd (true_false (sym (regular told) ∙ e)); clears = clears; answers = refl; kept = λ e. inl (clears.saved e, clears.target); bad_payload = λ n e. absurd (cc); needs_one = needs_found files i act.Done h.1 }
+downloads_found files i old new h regular clears = record { irregular = λ told e. absurd (true_false (sym (regular told) ∙ e)); clears = clears; answers = refl; kept = λ e. inl (clears.saved e, clears.target); seeks = seeks_found files i act.Done old new h (λ n e. cc) }
 
 pub downloads_cut : (files : Content) (i : ℕ) (s : Stop) (old new : Contents) → Finds files (Ok i) → WhenTold old (old.regular ≡ true) → IsOfPlace s → Clears (stopped_by s) old new → Downloads files (stopped_by s) old new
 downloads_cut files i s old new h regular cause clears = record {
   irregular = λ told e. absurd (true_false (sym (regular told) ∙ e));
   clears = clears;
-  answers = may_clear s cause;
+  answers = (wrote s (of_writing s cause)).1;
   kept = λ e. absurd (done_or_not s e);
-  bad_payload = λ n e. absurd (no_number s (of_writing s cause) n e);
-  needs_one = needs_found files i (stopped_by s) h.1;
+  seeks = seeks_found files i (stopped_by s) old new h (wrote s (of_writing s cause)).0;
 }
 
 -- ---- ArtifactInstall
 
 pub installs_none : (files : Content) (s : Stop) (m : Contents) → m.on ≡ true → Finds files (Err s) → Installs files (stopped_by s) m m
 installs_none files s m on h = record {
-  counts = counts_stopped files s m on h;
-  answers = install_may files s h;
-  bad_payload = bad_stopped files s m h;
-  needs_one = needs_stopped files s h;
+  counts = counts_still (stopped_by s) m (unfound files s h).0 on;
+  answers = (unfound files s h).1;
+  seeks = seeks_stopped files s m h;
   keeps = λ told t kept. kept;
   target = λ told e. absurd (done_or_not s e);
   saves = λ told e. absurd (done_or_not s e);
   saved = λ told bytes there. refl;
-  irregular = λ told e. ((λ d. done_or_not s d), unchanged files s m h);
+  irregular = λ told e. ((λ d. done_or_not s d), unchanged (stopped_by s) m (unfound files s h).0);
 }
 
 -- the fresh content alone was changed
@@ -180,9 +155,8 @@ touched_keeps is_new t a old new h (inr k) = inr (h.saved ∙ k.0, ⊎_elim (λ 
 pub installs_unseen : (files : Content) (i : ℕ) (s : Stop) (old new : Contents) → Finds files (Ok i) → IsOfPlace s → TouchesFresh (stopped_by s) old new → Untouched (stopped_by s) old new → Installs files (stopped_by s) old new
 installs_unseen files i s old new h cause touches untouched = record {
   counts = touches.counts;
-  answers = may_write s (of_writing s cause);
-  bad_payload = λ n e. absurd (no_number s (of_writing s cause) n e);
-  needs_one = needs_found files i (stopped_by s) h.1;
+  answers = (wrote s (of_writing s cause)).1;
+  seeks = seeks_found files i (stopped_by s) old new h (wrote s (of_writing s cause)).0;
   keeps = λ told t kept. touched_keeps (IsPayload files) t (stopped_by s) old new touches kept;
   target = λ told e. absurd (done_or_not s e);
   saves = λ told e. absurd (done_or_not s e);
@@ -197,13 +171,13 @@ saved_stays a old new s bytes there = ⊎_elim
     s.saved
 
 -- it stopped while it saved
-pub installs_cut : (files : Content) (i : ℕ) (s : Stop) (old new : Contents) → Finds files (Ok i) → WhenTold old (old.regular ≡ true) → IsOfPlace s → Counts (stopped_by s) old new → WhenTold old (SetsSaved (stopped_by s) (saved_after old.saved old.target) old new) → Installs files (stopped_by s) old new
+pub installs_cut : (files : Content) (i : ℕ) (s : Stop) (old new : Contents) → Finds files (Ok i) → WhenTold old (old.regular ≡ true) → IsOfPlace s → Counts (stopped_by s) old new
+    → WhenTold old (SetsSaved (stopped_by s) (saved_after old.saved old.target) old new) → Installs files (stopped_by s) old new
 installs_cut files i s old new h regular cause counts sets = record {
   irregular = λ told e. absurd (true_false (sym (regular told) ∙ e));
   counts = counts;
-  answers = may_write s (of_writing s cause);
-  bad_payload = λ n e. absurd (no_number s (of_writing s cause) n e);
-  needs_one = needs_found files i (stopped_by s) h.1;
+  answers = (wrote s (of_writing s cause)).1;
+  seeks = seeks_found files i (stopped_by s) old new h (wrote s (of_writing s cause)).0;
   keeps = λ told t kept. kept_saving (IsPayload files) t (stopped_by s) old new (sets told) kept;
   target = λ told e. absurd (done_or_not s e);
   saves = λ told e. absurd (done_or_not s e);
@@ -211,48 +185,55 @@ installs_cut files i s old new h regular cause counts sets = record {
 }
 
 -- it saved, and then replaced the target or stopped there
-installs_replacing : (files : Content) (i : ℕ) (a : FileAct) (old mid new : Contents) → Finds files (Ok i) → WhenTold old (old.regular ≡ true) → may_answer (State ArtifactInstall) a ≡ true → NoNumber a → Counts act.Done old mid → WhenTold old (SetsSaved act.Done (saved_after old.saved old.target) old mid) → Counts a mid new → WhenTold mid (Replaces (IsPayload files) a mid new) → Installs files a old new
+installs_replacing : (files : Content) (i : ℕ) (a : FileAct) (old mid new : Contents) → Finds files (Ok i) → WhenTold old (old.regular ≡ true) → may_answer (State ArtifactInstall) a ≡ true
+    → NoNumber a → Counts act.Done old mid → WhenTold old (SetsSaved act.Done (saved_after old.saved old.target) old mid) → Counts a mid new → WhenTold mid (Replaces (IsPayload files) a mid new)
+    → Installs files a old new
 installs_replacing files i a old mid new h regular may none first sets then r = record {
   irregular = λ told e. absurd (true_false (sym (regular told) ∙ e));
   counts = counts_then a old mid new first then;
   answers = may;
-  bad_payload = λ n e. absurd (none n e);
-  needs_one = needs_found files i a h.1;
+  seeks = seeks_found files i a old new h none;
   keeps = λ told t kept. kept_installing (IsPayload files) t a old mid new (sets told) (r (first.told ∙ told)) kept;
   target = λ told. (r (first.told ∙ told)).done;
   saves = λ told e nothing. (r (first.told ∙ told)).saved ∙ (sets told).done refl ∙ ap (λ (o : Option (List ℕ)). saved_after o old.target) nothing;
   saved = λ told bytes there. (r (first.told ∙ told)).saved ∙ saved_stays act.Done old mid (sets told) bytes there;
 }
 
-pub installs_done : (files : Content) (i : ℕ) (old mid new : Contents) → Finds files (Ok i) → WhenTold old (old.regular ≡ true) → Counts act.Done old mid → WhenTold old (SetsSaved act.Done (saved_after old.saved old.target) old mid) → Counts act.Done mid new → WhenTold mid (Replaces (IsPayload files) act.Done mid new) → Installs files act.Done old new
+pub installs_done : (files : Content) (i : ℕ) (old mid new : Contents) → Finds files (Ok i) → WhenTold old (old.regular ≡ true) → Counts act.Done old mid
+    → WhenTold old (SetsSaved act.Done (saved_after old.saved old.target) old mid) → Counts act.Done mid new → WhenTold mid (Replaces (IsPayload files) act.Done mid new)
+    → Installs files act.Done old new
 installs_done files i old mid new h regular first sets then r = installs_replacing files i act.Done old mid new h regular refl (λ n e. cc) first sets then r
 
-pub installs_stopped : (files : Content) (i : ℕ) (s : Stop) (old mid new : Contents) → Finds files (Ok i) → WhenTold old (old.regular ≡ true) → IsOfWriting s → Counts act.Done old mid → WhenTold old (SetsSaved act.Done (saved_after old.saved old.target) old mid) → Counts (stopped_by s) mid new → WhenTold mid (Replaces (IsPayload files) (stopped_by s) mid new) → Installs files (stopped_by s) old new
-installs_stopped files i s old mid new h regular cause first sets then r = installs_replacing files i (stopped_by s) old mid new h regular (may_write s cause) (no_number s cause) first sets then r
+pub installs_stopped : (files : Content) (i : ℕ) (s : Stop) (old mid new : Contents) → Finds files (Ok i) → WhenTold old (old.regular ≡ true) → IsOfWriting s → Counts act.Done old mid
+    → WhenTold old (SetsSaved act.Done (saved_after old.saved old.target) old mid) → Counts (stopped_by s) mid new → WhenTold mid (Replaces (IsPayload files) (stopped_by s) mid new)
+    → Installs files (stopped_by s) old new
+installs_stopped files i s old mid new h regular cause first sets then r = installs_replacing files i (stopped_by s) old mid new h regular (wrote s cause).1 (wrote s cause).0 first sets then r
 
 -- ---- ArtifactRollback
 
-may_roll : (s : Stop) → IsOfPlace s → may_answer (State ArtifactRollback) (stopped_by s) ≡ true
-may_roll (stop.BadPayload k) h = absurd h
-may_roll stop.SourceFault h = absurd h
-may_roll stop.DiskFault h = refl
-may_roll stop.Off h = refl
-may_roll stop.BadSaved h = absurd h
-
-not_bad : (s : Stop) → IsOfPlace s → stopped_by s ≡ act.BadSaved → ⊥
-not_bad (stop.BadPayload k) h e = absurd h
-not_bad stop.SourceFault h e = absurd h
-not_bad stop.DiskFault h e = cc
-not_bad stop.Off h e = cc
-not_bad stop.BadSaved h e = absurd h
-
 -- the place alone cut it off
-cut_by : (s : Stop) → IsOfPlace s → (a : FileAct) → stopped_by s ≡ a → (a ≡ act.BadSaved) ⊎ ((a ≡ act.DiskFault) ⊎ (a ≡ act.Off))
-cut_by (stop.BadPayload k) h a e = absurd h
-cut_by stop.SourceFault h a e = absurd h
-cut_by stop.DiskFault h a e = inr (inl (sym e))
-cut_by stop.Off h a e = inr (inr (sym e))
-cut_by stop.BadSaved h a e = absurd h
+cut_by : (s : Stop) → IsOfPlace s → (stopped_by s ≡ act.DiskFault) ⊎ (stopped_by s ≡ act.Off)
+cut_by (stop.BadPayload k) h = absurd (cc)
+cut_by stop.SourceFault h = absurd (cc)
+cut_by stop.DiskFault h = inl refl
+cut_by stop.Off h = inr refl
+cut_by stop.BadSaved h = absurd (cc)
+
+may_roll : (a : FileAct) → (a ≡ act.DiskFault) ⊎ (a ≡ act.Off) → may_answer (State ArtifactRollback) a ≡ true
+may_roll a (inl e) = subst (λ (b : FileAct). may_answer (State ArtifactRollback) b ≡ true) (sym e) refl
+may_roll a (inr e) = subst (λ (b : FileAct). may_answer (State ArtifactRollback) b ≡ true) (sym e) refl
+
+not_bad : (a : FileAct) → (a ≡ act.DiskFault) ⊎ (a ≡ act.Off) → a ≡ act.BadSaved → ⊥
+not_bad a (inl e) bad = let no : act.DiskFault ≡ act.BadSaved = sym e ∙ bad in cc
+not_bad a (inr e) bad = let no : act.Off ≡ act.BadSaved = sym e ∙ bad in cc
+
+-- where the place cut it off, nothing is said of what is saved
+finds_none : (s : Stop) (old new : Contents) → IsOfPlace s → FindsBad (stopped_by s) old new
+finds_none s old new cause = record {
+  bad_saved = λ told e. absurd (not_bad (stopped_by s) (cut_by s cause) e);
+  bad_stays = λ e. absurd (not_bad (stopped_by s) (cut_by s cause) e);
+  finds_bad = λ told bad. inr (cut_by s cause);
+}
 
 meant_spelling : (t : Option (List ℕ)) → meant_by (spelling t) ≡ t
 meant_spelling None = refl
@@ -279,91 +260,69 @@ rolls_keep is_new t old new target saved (inr h) = inr (
       target,
 )
 
+-- what a rollback gives follows from what it makes of the target
+gives_saved : (a : FileAct) (old new : Contents) → new.saved ≡ old.saved → (new.target ≡ old.target) ⊎ (new.target ≡ rolled_back old.saved old.target) → (a ≡ act.Done → new.target ≡ rolled_back old.saved old.target)
+    → (old.target ≡ rolled_back old.saved old.target → Untouched a old new) → (old.regular ≡ false → (IsThere old.saved → a ≢ act.Done) × Untouched a old new) → GivesSaved a old new
+gives_saved a old new saved target done back irregular = record {
+  target = target;
+  done = done;
+  keeps = λ files t kept. rolls_keep (IsPayload files) t old new target saved kept;
+  restores = λ e files t kept. done e ∙ rolls_back_to (IsPayload files) t old kept;
+  back = back;
+  irregular = irregular;
+}
+
 -- nothing is saved
 pub rolls_none : (m : Contents) → m.on ≡ true → WhenTold m (m.saved ≡ None) → RollsBack act.Done m m
 rolls_none m on none = record {
-  counts = record { on = on; told = refl; regular = refl; losses = refl; faults = refl };
+  counts = counts_still act.Done m refl on;
   answers = refl;
-  target = λ told. inl refl;
-  done = λ told e. sym (ap (λ (o : Option (List ℕ)). rolled_back o m.target) (none told));
   saved = refl;
-  bad_saved = λ told e. cc;
-  bad_stays = λ e. refl;
-  finds_bad = λ told bad. absurd (subst IsBad (none told) bad);
-  keeps = λ told files t kept. kept;
-  restores = λ told e files t kept. sym (ap (λ (o : Option (List ℕ)). rolled_back o m.target) (none told)) ∙ rolls_back_to (IsPayload files) t m kept;
-  back = λ told e. refl;
-  irregular = λ told e. ((λ there. absurd (subst IsThere (none told) there)), refl);
+  gives = λ told. gives_saved act.Done m m refl (inl refl) (λ e. sym (ap (λ (o : Option (List ℕ)). rolled_back o m.target) (none told))) (λ e. refl) (λ e. ((λ there. absurd (subst IsThere (none told) there)), refl));
+  bad = record { bad_saved = λ told e. cc; bad_stays = λ e. refl; finds_bad = λ told bad. absurd (subst IsBad (none told) bad) };
 }
 
 -- what is saved is bad
 pub rolls_bad : (m : Contents) → m.on ≡ true → WhenTold m (IsBad m.saved) → RollsBack act.BadSaved m m
 rolls_bad m on bad = record {
-  counts = record { on = on; told = refl; regular = refl; losses = refl; faults = refl };
+  counts = counts_still act.BadSaved m refl on;
   answers = refl;
-  target = λ told. inl refl;
-  done = λ told e. cc;
   saved = refl;
-  bad_saved = λ told e. bad told;
-  bad_stays = λ e. refl;
-  finds_bad = λ told b. inl refl;
-  keeps = λ told files t kept. kept;
-  restores = λ told e. cc;
-  back = λ told e. refl;
-  irregular = λ told e. ((λ there d. cc), refl);
+  gives = λ told. gives_saved act.BadSaved m m refl (inl refl) (λ e. cc) (λ e. refl) (λ e. ((λ there d. cc), refl));
+  bad = record { bad_saved = λ told e. bad told; bad_stays = λ e. refl; finds_bad = λ told b. inl refl };
 }
 
 -- it stopped before the target was changed
 pub rolls_cut : (s : Stop) (old new : Contents) → IsOfPlace s → TouchesFresh (stopped_by s) old new → Untouched (stopped_by s) old new → RollsBack (stopped_by s) old new
 rolls_cut s old new cause h untouched = record {
-  back = λ told e. untouched;
-  irregular = λ told e. ((λ there d. done_or_not s d), untouched);
   counts = h.counts;
-  answers = may_roll s cause;
-  target = λ told. inl h.target;
-  done = λ told e. absurd (done_or_not s e);
+  answers = may_roll (stopped_by s) (cut_by s cause);
   saved = h.saved;
-  bad_saved = λ told e. absurd (not_bad s cause e);
-  bad_stays = λ e. absurd (not_bad s cause e);
-  finds_bad = λ told bad. cut_by s cause (stopped_by s) refl;
-  keeps = λ told files t kept. rolls_keep (IsPayload files) t old new (inl h.target) h.saved kept;
-  restores = λ told e. absurd (done_or_not s e);
+  gives = λ told. gives_saved (stopped_by s) old new h.saved (inl h.target) (λ e. absurd (done_or_not s e)) (λ e. untouched) (λ e. ((λ there d. done_or_not s d), untouched));
+  bad = finds_none s old new cause;
 }
+
+-- the target was set to what was saved, or stays
+set_to : (bytes : Option (List ℕ)) (a : FileAct) (old new : Contents) → bytes ≡ rolled_back old.saved old.target → new.saved ≡ old.saved → GivesBack a bytes old new → GivesSaved a old new
+set_to bytes a old new is saved h = gives_saved a old new saved (⊎_elim (λ (same : new.target ≡ old.target). inl same) (λ (set : new.target ≡ bytes). inr (set ∙ is)) h.sets.target) (λ e. h.sets.done e ∙ is) (λ e. h.same (e ∙ sym is)) (λ e. ((λ there. (h.irregular e).0), (h.irregular e).1))
 
 -- it set the target to what was saved
 pub rolls_done : (bytes : Option (List ℕ)) (old new : Contents) → WhenTold old (bytes ≡ rolled_back old.saved old.target) → WhenTold old (IsBad old.saved → ⊥) → Counts act.Done old new → new.saved ≡ old.saved → WhenTold old (GivesBack act.Done bytes old new) → RollsBack act.Done old new
 rolls_done bytes old new is good counts saved h = record {
-  back = λ told e. (h told).same (e ∙ sym (is told));
-  irregular = λ told e. ((λ there. ((h told).irregular e).0), ((h told).irregular e).1);
   counts = counts;
   answers = refl;
-  target = λ told. inr ((h told).sets.done refl ∙ is told);
-  done = λ told e. (h told).sets.done refl ∙ is told;
   saved = saved;
-  bad_saved = λ told e. cc;
-  bad_stays = λ e. cc;
-  finds_bad = λ told bad. absurd (good told bad);
-  keeps = λ told files t kept. rolls_keep (IsPayload files) t old new (inr ((h told).sets.done refl ∙ is told)) saved kept;
-  restores = λ told e files t kept. (h told).sets.done refl ∙ is told ∙ rolls_back_to (IsPayload files) t old kept;
+  gives = λ told. set_to bytes act.Done old new (is told) saved (h told);
+  bad = record { bad_saved = λ told e. cc; bad_stays = λ e. cc; finds_bad = λ told bad. absurd (good told bad) };
 }
-
-set_or_not : (bytes : Option (List ℕ)) (a : FileAct) (old new : Contents) → bytes ≡ rolled_back old.saved old.target → SetsTarget a bytes old new → (new.target ≡ old.target) ⊎ (new.target ≡ rolled_back old.saved old.target)
-set_or_not bytes a old new is h = ⊎_elim (λ (same : new.target ≡ old.target). inl same) (λ (set : new.target ≡ bytes). inr (set ∙ is)) h.target
 
 pub rolls_stopped : (bytes : Option (List ℕ)) (s : Stop) (old new : Contents) → WhenTold old (bytes ≡ rolled_back old.saved old.target) → IsOfPlace s → Counts (stopped_by s) old new → new.saved ≡ old.saved → WhenTold old (GivesBack (stopped_by s) bytes old new) → RollsBack (stopped_by s) old new
 rolls_stopped bytes s old new is cause counts saved h = record {
-  back = λ told e. (h told).same (e ∙ sym (is told));
-  irregular = λ told e. ((λ there. ((h told).irregular e).0), ((h told).irregular e).1);
   counts = counts;
-  answers = may_roll s cause;
-  target = λ told. set_or_not bytes (stopped_by s) old new (is told) (h told).sets;
-  done = λ told e. (h told).sets.done e ∙ is told;
+  answers = may_roll (stopped_by s) (cut_by s cause);
   saved = saved;
-  bad_saved = λ told e. absurd (not_bad s cause e);
-  bad_stays = λ e. absurd (not_bad s cause e);
-  finds_bad = λ told bad. cut_by s cause (stopped_by s) refl;
-  keeps = λ told files t kept. rolls_keep (IsPayload files) t old new (set_or_not bytes (stopped_by s) old new (is told) (h told).sets) saved kept;
-  restores = λ told e. absurd (done_or_not s e);
+  gives = λ told. set_to bytes (stopped_by s) old new (is told) saved (h told);
+  bad = finds_none s old new cause;
 }
 
 -- ---- the first byte of what is saved

@@ -1,5 +1,5 @@
 -- What is written.
-use Rattle.std.proofs.Common.{◌≡◌, ap, subst}
+use Rattle.std.proofs.Common.{◌≡◌, subst}
 use Rattle.std.specs.Prelude.{Some}
 use Rattle.device_model.specs.declared.calls.Query.{Query}
 use Rattle.device_model.specs.declared.module_word.ModuleWord.TheVariants.{Ask}

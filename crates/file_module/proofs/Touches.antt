@@ -11,7 +11,7 @@ use Rattle.file_module.specs.declared.answer.FileAct.TheVariants.{Done}
 use Rattle.file_module.specs.declared.place.Slot.{Slot}
 use Rattle.file_module.specs.declared.place.Slot.TheVariants.{Target, Saved, Fresh}
 use Rattle.file_module.specs.Contents.{Contents, content}
-use Rattle.file_module.specs.Answers.{Counts, TouchesFresh, SetsSaved, SetsTarget, Replaces, IsOfPlace, losses_after, faults_after, source_after, stopped_by}
+use Rattle.file_module.specs.Answers.{Counts, TouchesFresh, SetsSaved, SetsTarget, Replaces, IsOfPlace, how_of, losses_after, faults_after, source_after, stopped_by}
 use Rattle.file_module.specs.declared.answer.Stop.{Stop}
 use Rattle.file_module.specs.declared.answer.Stop.TheVariants as stop
 
@@ -20,8 +20,8 @@ counts_then act old mid new a b = record {
   on = b.on;
   told = b.told ∙ a.told;
   regular = b.regular ∙ a.regular;
-  losses = b.losses ∙ ap (λ (n : ℕ). losses_after act n) a.losses;
-  faults = b.faults ∙ ap (λ (n : ℕ). faults_after act n) a.faults;
+  losses = b.losses ∙ ap (λ (n : ℕ). losses_after (how_of act) n) a.losses;
+  faults = b.faults ∙ ap (λ (n : ℕ). faults_after (how_of act) n) a.faults;
 }
 
 pub touches_then : (act : FileAct) (old mid new : Contents) → TouchesFresh Done old mid → TouchesFresh act mid new → TouchesFresh act old new
@@ -40,7 +40,7 @@ content_same act Fresh old new other h = absurd (other refl)
 pub source_kept : (s : Stop) (n : ℕ) → IsOfPlace s → source_after (stopped_by s) n ≡ n
 source_kept (stop.BadPayload k) n h = refl
 source_kept stop.DiskFault n h = refl
-source_kept stop.SourceFault n h = absurd h
+source_kept stop.SourceFault n h = absurd (cc)
 source_kept stop.Off n h = refl
 source_kept stop.BadSaved n h = refl
 

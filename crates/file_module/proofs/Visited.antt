@@ -21,7 +21,7 @@ kept_by files None a t old new told between h kept = subst (Kept (IsPayload file
 kept_by files (Some (Ask query)) a t old new told between h kept = subst (Kept (IsPayload files) t) (sym (h.idle (Ask query) refl refl)) kept
 kept_by files (Some (State Download)) a t old new told between h kept = absurd between
 kept_by files (Some (State ArtifactInstall)) a t old new told between h kept = (h.installs refl).keeps told t kept
-kept_by files (Some (State ArtifactRollback)) a t old new told between h kept = (h.rolls_back refl).keeps told files t kept
+kept_by files (Some (State ArtifactRollback)) a t old new told between h kept = ((h.rolls_back refl).gives told).keeps files t kept
 kept_by files (Some (State Cleanup)) a t old new told between h kept = absurd between
 kept_by files (Some (State state)) a t old new told between h kept = subst (Kept (IsPayload files) t) (sym (h.idle (State state) refl refl)) kept
 
@@ -39,4 +39,4 @@ always_told files old new (visit ∷ visits) told (same, (is, rest)) =
 
 pub always_restored : AlwaysRestored
 always_restored files t old new end visits told kept leads h =
-    (h.rolls_back refl).restores (always_told files old new visits told leads) refl files t (always_kept files t old new visits told kept leads)
+    ((h.rolls_back refl).gives (always_told files old new visits told leads)).restores refl files t (always_kept files t old new visits told kept leads)

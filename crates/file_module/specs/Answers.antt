@@ -1,6 +1,8 @@
--- How the module ends.
-use Rattle.std.specs.Prelude.{◌≡◌, ◌≢◌, ◌⊎◌, ℕ, Bool, true, false, List, Option, Result, Ok, Err, ⊤}
+-- How the module ends: each answer a row of one table.
+use Rattle.std.specs.Prelude.{◌≡◌, ◌≢◌, ◌⊎◌, ℕ, ◌||◌, Bool, true, false, if◌then◌else◌, List, Option, Result, Ok, Err}
 use Rattle.upd_text.specs.Counts.{counted}
+use Rattle.device_model.specs.How.{How, Through, PowerLost, DiskFailed}
+use Rattle.device_model.specs.declared.module_word.ModuleWord.{ModuleWord}
 use Rattle.file_module.specs.declared.answer.Stop.{Stop}
 use Rattle.file_module.specs.declared.answer.Stop.TheVariants as stop
 use Rattle.file_module.specs.declared.answer.FileAct.{FileAct}
@@ -8,6 +10,7 @@ use Rattle.file_module.specs.declared.answer.FileAct.TheVariants.{Done, Usage, B
 use Rattle.file_module.specs.Contents.{Contents}
 use Rattle.file_module.specs.Calls.{Loses, failed}
 use Rattle.file_module.specs.Saved.{IsNew}
+use Rattle.file_module.specs.Words.{Use, use_of}
 
 abbrev pub stopped_by : Stop → FileAct
 stopped_by (stop.BadPayload n) = BadPayload n
@@ -20,78 +23,87 @@ abbrev pub act_of : {T : Type 0} → Result T Stop → FileAct
 act_of (Ok x) = Done
 act_of (Err s) = stopped_by s
 
+-- ---- the table
+
+pub record Row : Type 0 where
+  pub number : ℕ  -- the exit status
+  pub how : How  -- what cut the calls of the place off
+  pub of_source : Bool  -- the source's count of faults rose
+  pub whose : Use → Bool  -- which words it may come after
+
+abbrev row : ℕ → How → Bool → (Use → Bool) → Row
+row number how of_source whose = record { number = number; how = how; of_source = of_source; whose = whose }
+
+-- number, what cut the place off, whether the source failed, whose answer it may be
+abbrev pub row_of : FileAct → Row
+row_of Done = row 0 Through false (λ u. true)
+row_of Usage = row 1 Through false (λ u. false)
+row_of (BadPayload n) = row 2 Through false (λ u. u.payload)
+row_of DiskFault = row 3 DiskFailed false (λ u. u.place)
+row_of SourceFault = row 4 Through true (λ u. u.payload)
+row_of SinkFault = row 5 Through false (λ u. u.reply)
+row_of Off = row 6 PowerLost false (λ u. u.place)
+row_of BadSaved = row 7 Through false (λ u. u.back)
+
+-- ---- what follows from it
+
 -- the status of the program
-abbrev pub act_number : FileAct → ℕ
-act_number Done = 0
-act_number Usage = 1
-act_number (BadPayload n) = 2
-act_number DiskFault = 3
-act_number SourceFault = 4
-act_number SinkFault = 5
-act_number Off = 6
-act_number BadSaved = 7
+abbrev pub number_of : FileAct → ℕ
+number_of act = (row_of act).number
 
--- ---- what each answer says of the counts
+abbrev pub how_of : FileAct → How
+how_of act = (row_of act).how
 
-abbrev pub on_after : FileAct → Bool
-on_after Done = true
-on_after Usage = true
-on_after (BadPayload n) = true
-on_after DiskFault = true
-on_after SourceFault = true
-on_after SinkFault = true
-on_after Off = false
-on_after BadSaved = true
+-- the answer may come after this word
+abbrev pub may_answer : ModuleWord → FileAct → Bool
+may_answer word act = (row_of act).whose (use_of word)
 
-abbrev pub losses_after : FileAct → ℕ → ℕ
-losses_after Done n = n
-losses_after Usage n = n
-losses_after (BadPayload k) n = n
-losses_after DiskFault n = n
-losses_after SourceFault n = n
-losses_after SinkFault n = n
-losses_after Off n = counted n
-losses_after BadSaved n = n
-
-abbrev pub faults_after : FileAct → ℕ → ℕ
-faults_after Done n = n
-faults_after Usage n = n
-faults_after (BadPayload k) n = n
-faults_after DiskFault n = counted n
-faults_after SourceFault n = n
-faults_after SinkFault n = n
-faults_after Off n = n
-faults_after BadSaved n = n
-
--- the count of the source
+-- the source's count of faults
 abbrev pub source_after : FileAct → ℕ → ℕ
-source_after Done n = n
-source_after Usage n = n
-source_after (BadPayload k) n = n
-source_after DiskFault n = n
-source_after SourceFault n = counted n
-source_after SinkFault n = n
-source_after Off n = n
-source_after BadSaved n = n
+source_after act n = if (row_of act).of_source then counted n else n
+
+abbrev pub is_cut : How → Bool
+is_cut Through = false
+is_cut how = true
+
+-- the place cut it off
+abbrev pub IsOfPlace : Stop → Type 0
+IsOfPlace s = is_cut (how_of (stopped_by s)) ≡ true
+
+-- the place or the source cut it off
+abbrev pub IsOfWriting : Stop → Type 0
+IsOfWriting s = is_cut (how_of (stopped_by s)) || (row_of (stopped_by s)).of_source ≡ true
+
+-- ---- what is left of the place
+
+abbrev pub is_on : How → Bool
+is_on PowerLost = false
+is_on how = true
+
+abbrev pub losses_after : How → ℕ → ℕ
+losses_after PowerLost n = counted n
+losses_after how n = n
+
+abbrev pub faults_after : How → ℕ → ℕ
+faults_after DiskFailed n = counted n
+faults_after how n = n
 
 -- whether the place is on then, and its counts
 pub record Counts (act : FileAct) (old new : Contents) : Type 0 where
-  pub on : new.on ≡ on_after act
+  pub on : new.on ≡ is_on (how_of act)
   pub told : new.told ≡ old.told
   pub regular : new.regular ≡ old.regular
-  pub losses : new.losses ≡ losses_after act old.losses
-  pub faults : new.faults ≡ faults_after act old.faults
+  pub losses : new.losses ≡ losses_after (how_of act) old.losses
+  pub faults : new.faults ≡ faults_after (how_of act) old.faults
 
 -- No call changed anything: all is as it was, but for the counts, and for what a loss makes of a fresh content that isn't settled.
+abbrev pub Unchanged : How → Contents → Contents → Type 0
+Unchanged Through old new = new ≡ old
+Unchanged DiskFailed old new = new ≡ failed old
+Unchanged PowerLost old new = Loses old new
+
 abbrev pub Untouched : FileAct → Contents → Contents → Type 0
-Untouched Done old new = new ≡ old
-Untouched Usage old new = new ≡ old
-Untouched (BadPayload n) old new = new ≡ old
-Untouched DiskFault old new = new ≡ failed old
-Untouched SourceFault old new = new ≡ old
-Untouched SinkFault old new = new ≡ old
-Untouched Off old new = Loses old new
-Untouched BadSaved old new = new ≡ old
+Untouched act old new = Unchanged (how_of act) old new
 
 -- at most the fresh content was changed
 pub record TouchesFresh (act : FileAct) (old new : Contents) : Type 0 where
@@ -118,22 +130,6 @@ pub record SetsSaved (act : FileAct) (bytes : Option (List ℕ)) (old new : Cont
   pub saved : (new.saved ≡ old.saved) ⊎ (new.saved ≡ bytes)
   pub done : act ≡ Done → new.saved ≡ bytes
   pub target : new.target ≡ old.target
-
--- what cut a call of the place off
-abbrev pub IsOfPlace : Stop → Type 0
-IsOfPlace (stop.BadPayload n) = ⊥
-IsOfPlace stop.DiskFault = ⊤
-IsOfPlace stop.SourceFault = ⊥
-IsOfPlace stop.Off = ⊤
-IsOfPlace stop.BadSaved = ⊥
-
--- what cut the writing of a file of the source off
-abbrev pub IsOfWriting : Stop → Type 0
-IsOfWriting (stop.BadPayload n) = ⊥
-IsOfWriting stop.DiskFault = ⊤
-IsOfWriting stop.SourceFault = ⊤
-IsOfWriting stop.Off = ⊤
-IsOfWriting stop.BadSaved = ⊥
 
 -- the target has a new content instead, or stays where the call didn't go through
 pub record Replaces (is_new : List ℕ → Type 0) (act : FileAct) (old new : Contents) : Type 0 where

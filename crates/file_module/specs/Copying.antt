@@ -1,5 +1,5 @@
 -- Bytes that are added to the fresh content.
-use Rattle.std.specs.Prelude.{◌≡◌, ℕ, List, [], ◌++◌, take, drop, Option, Some, None, option_map}
+use Rattle.std.specs.Prelude.{◌≡◌, ℕ, ◌-◌, Bool, MatchBool, List, [], ◌++◌, take, drop, Option, Some, None, option_map}
 use Rattle.io_model.specs.Source.{Content, bytes_at}
 use Rattle.file_module.specs.Contents.{Contents}
 use Rattle.file_module.specs.Payload.{When}
@@ -13,6 +13,18 @@ piece at count (Some bytes) = take count (drop at bytes)
 abbrev pub rest : ℕ → Option (List ℕ) → List ℕ
 rest at None = []
 rest at (Some bytes) = drop at bytes
+
+-- the next bytes of what is saved stand in the target, one byte before
+abbrev pub IsSamePiece : ℕ → ℕ → Contents → Type 0
+IsSamePiece at count m = piece at count m.saved ≡ piece (at - 1) count m.target
+
+-- the target is what is saved, behind its first byte
+abbrev pub IsBack : Contents → Type 0
+IsBack m = m.target ≡ Some (rest 1 m.saved)
+
+-- it is said whether this holds
+abbrev pub Tells : Bool → Type 0 → Type 0
+Tells said fact = MatchBool said fact (fact → ⊥)
 
 -- these bytes were added at the end of the fresh content
 abbrev pub AddsFresh : List ℕ → Contents → Contents → Type 0

@@ -1,5 +1,5 @@
 -- What each word does, whatever the answer is.
-use Rattle.std.specs.Prelude.{◌≡◌, ◌≢◌, ◌⊎◌, ◌↔◌, ℕ, Bool, true, false, List, length, Option, Some, None}
+use Rattle.std.specs.Prelude.{◌≡◌, ◌≢◌, ◌⊎◌, ◌↔◌, ℕ, true, false, List, length, Option, Some, None}
 use Rattle.device_model.specs.declared.calls.ModState.{ModState}
 use Rattle.device_model.specs.declared.calls.ModState.TheVariants.{Download, ArtifactInstall, ArtifactRollback, Cleanup}
 use Rattle.device_model.specs.declared.calls.Query.{Query}
@@ -10,45 +10,10 @@ use Rattle.io_model.specs.Sink.{Written, Writes, WritesFront}
 use Rattle.file_module.specs.declared.answer.FileAct.{FileAct}
 use Rattle.file_module.specs.declared.answer.FileAct.TheVariants.{Done, Usage, BadPayload, DiskFault, SourceFault, SinkFault, Off, BadSaved}
 use Rattle.file_module.specs.Contents.{Contents, IsThere, WhenTold}
-use Rattle.file_module.specs.Answers.{Counts, Untouched}
+use Rattle.file_module.specs.Answers.{Counts, Untouched, may_answer}
 use Rattle.file_module.specs.Payload.{When, IsPayload, HasPayloads, payloads}
 use Rattle.file_module.specs.Saved.{IsBad, IsNew, Kept, spelling, rolled_back}
-use Rattle.file_module.specs.Words.{reply_to}
-
--- ---- which answers may come after a word
-
-abbrev pub takes_payload : ModuleWord → Bool
-takes_payload (State Download) = true
-takes_payload (State ArtifactInstall) = true
-takes_payload word = false
-
-abbrev pub is_query : ModuleWord → Bool
-is_query (Ask query) = true
-is_query (State state) = false
-
--- the word has work to do at the place
-abbrev pub uses_place : ModuleWord → Bool
-uses_place (State Download) = true
-uses_place (State ArtifactInstall) = true
-uses_place (State ArtifactRollback) = true
-uses_place (State Cleanup) = true
-uses_place word = false
-
-abbrev pub is_rollback : ModuleWord → Bool
-is_rollback (State ArtifactRollback) = true
-is_rollback word = false
-
-abbrev pub may_answer : ModuleWord → FileAct → Bool
-may_answer word Done = true
-may_answer word Usage = false
-may_answer word (BadPayload n) = takes_payload word
-may_answer word DiskFault = uses_place word
-may_answer word SourceFault = takes_payload word
-may_answer word SinkFault = is_query word
-may_answer word Off = uses_place word
-may_answer word BadSaved = is_rollback word
-
--- ---- what each word does
+use Rattle.file_module.specs.Words.{use_of, reply_to}
 
 -- there is one payload file, or the answer says how many there are or that the source failed
 abbrev pub NeedsOne : Content → FileAct → Type 0
@@ -60,8 +25,10 @@ pub record CountsPayloads (files : Content) (n : ℕ) (old new : Contents) : Typ
   pub number : HasPayloads files n
   pub same : new ≡ old
 
-abbrev pub BadPayloadIs : Content → FileAct → Contents → Contents → Type 0
-BadPayloadIs files act old new = (n : ℕ) → act ≡ BadPayload n → CountsPayloads files n old new
+-- the answers of a search for the payload
+pub record Seeks (files : Content) (act : FileAct) (old new : Contents) : Type 0 where
+  pub bad_payload : (n : ℕ) → act ≡ BadPayload n → CountsPayloads files n old new
+  pub needs_one : NeedsOne files act
 
 pub record Clears (act : FileAct) (old new : Contents) : Type 0 where
   pub counts : Counts act old new
@@ -73,34 +40,40 @@ pub record Downloads (files : Content) (act : FileAct) (old new : Contents) : Ty
   pub clears : Clears act old new
   pub answers : may_answer (State Download) act ≡ true
   pub kept : act ≡ Done → Kept (IsPayload files) old.target new
-  pub bad_payload : BadPayloadIs files act old new
-  pub needs_one : NeedsOne files act
+  pub seeks : Seeks files act old new
   pub irregular : WhenTold old (old.regular ≡ false → (act ≢ Done) × Untouched act old new)
 
 pub record Installs (files : Content) (act : FileAct) (old new : Contents) : Type 0 where
   pub counts : Counts act old new
   pub answers : may_answer (State ArtifactInstall) act ≡ true
-  pub bad_payload : BadPayloadIs files act old new
-  pub needs_one : NeedsOne files act
+  pub seeks : Seeks files act old new
   pub keeps : WhenTold old ((t : Option (List ℕ)) → Kept (IsPayload files) t old → Kept (IsPayload files) t new)
   pub target : WhenTold old (act ≡ Done → IsNew (IsPayload files) new.target)
   pub saves : WhenTold old (act ≡ Done → old.saved ≡ None → new.saved ≡ Some (spelling old.target))
   pub saved : WhenTold old ((bytes : List ℕ) → old.saved ≡ Some bytes → new.saved ≡ old.saved)
   pub irregular : WhenTold old (old.regular ≡ false → (act ≢ Done) × Untouched act old new)
 
+-- what a rollback makes of the target
+pub record GivesSaved (act : FileAct) (old new : Contents) : Type 0 where
+  pub target : (new.target ≡ old.target) ⊎ (new.target ≡ rolled_back old.saved old.target)
+  pub done : act ≡ Done → new.target ≡ rolled_back old.saved old.target
+  pub keeps : (files : Content) (t : Option (List ℕ)) → Kept (IsPayload files) t old → Kept (IsPayload files) t new
+  pub restores : act ≡ Done → (files : Content) (t : Option (List ℕ)) → Kept (IsPayload files) t old → new.target ≡ t
+  pub back : old.target ≡ rolled_back old.saved old.target → Untouched act old new
+  pub irregular : old.regular ≡ false → (IsThere old.saved → act ≢ Done) × Untouched act old new
+
+-- the answer that what is saved is bad
+pub record FindsBad (act : FileAct) (old new : Contents) : Type 0 where
+  pub bad_saved : WhenTold old (act ≡ BadSaved → IsBad old.saved)
+  pub bad_stays : act ≡ BadSaved → new ≡ old
+  pub finds_bad : WhenTold old (IsBad old.saved → (act ≡ BadSaved) ⊎ ((act ≡ DiskFault) ⊎ (act ≡ Off)))
+
 pub record RollsBack (act : FileAct) (old new : Contents) : Type 0 where
   pub counts : Counts act old new
   pub answers : may_answer (State ArtifactRollback) act ≡ true
   pub saved : new.saved ≡ old.saved
-  pub target : WhenTold old ((new.target ≡ old.target) ⊎ (new.target ≡ rolled_back old.saved old.target))
-  pub done : WhenTold old (act ≡ Done → new.target ≡ rolled_back old.saved old.target)
-  pub keeps : WhenTold old ((files : Content) (t : Option (List ℕ)) → Kept (IsPayload files) t old → Kept (IsPayload files) t new)
-  pub restores : WhenTold old (act ≡ Done → (files : Content) (t : Option (List ℕ)) → Kept (IsPayload files) t old → new.target ≡ t)
-  pub bad_saved : WhenTold old (act ≡ BadSaved → IsBad old.saved)
-  pub bad_stays : act ≡ BadSaved → new ≡ old
-  pub back : WhenTold old (old.target ≡ rolled_back old.saved old.target → Untouched act old new)
-  pub irregular : WhenTold old (old.regular ≡ false → (IsThere old.saved → act ≢ Done) × Untouched act old new)
-  pub finds_bad : WhenTold old (IsBad old.saved → (act ≡ BadSaved) ⊎ ((act ≡ DiskFault) ⊎ (act ≡ Off)))
+  pub gives : WhenTold old (GivesSaved act old new)
+  pub bad : FindsBad act old new
 
 -- ---- the contract of the module
 
@@ -114,7 +87,7 @@ pub record FileActs (asked : Option ModuleWord) (files : Content) (act : FileAct
   pub installs : asked ≡ Some (State ArtifactInstall) → Installs files act old new
   pub rolls_back : asked ≡ Some (State ArtifactRollback) → RollsBack act old new
   pub cleans_up : asked ≡ Some (State Cleanup) → Clears act old new
-  pub idle : (word : ModuleWord) → asked ≡ Some word → uses_place word ≡ false → new ≡ old
+  pub idle : (word : ModuleWord) → asked ≡ Some word → (use_of word).place ≡ false → new ≡ old
 
 -- what it writes: the reply to a query, or a front of it where the sink fails, and nothing else
 pub record Says (asked : Option ModuleWord) (act : FileAct) (old new : Written) : Type 0 where

@@ -41,7 +41,9 @@ Leads files old (visit ∷ visits) new = SameSlots old visit.before × (IsVisit 
 
 -- Where t was kept, it is kept after any such calls, and a rollback that is done then gives it.
 abbrev pub AlwaysKept : Type 0
-AlwaysKept = (files : Content) (t : Option (List ℕ)) (old new : Contents) (visits : List Visit) → WhenTold old (Kept (IsPayload files) t old → Leads files old visits new → Kept (IsPayload files) t new)
+AlwaysKept = (files : Content) (t : Option (List ℕ)) (old new : Contents) (visits : List Visit)
+    → WhenTold old (Kept (IsPayload files) t old → Leads files old visits new → Kept (IsPayload files) t new)
 
 abbrev pub AlwaysRestored : Type 0
-AlwaysRestored = (files : Content) (t : Option (List ℕ)) (old new end : Contents) (visits : List Visit) → WhenTold old (Kept (IsPayload files) t old → Leads files old visits new → FileActs (Some (State ArtifactRollback)) files Done new end → end.target ≡ t)
+AlwaysRestored = (files : Content) (t : Option (List ℕ)) (old new end : Contents) (visits : List Visit)
+    → WhenTold old (Kept (IsPayload files) t old → Leads files old visits new → FileActs (Some (State ArtifactRollback)) files Done new end → end.target ≡ t)

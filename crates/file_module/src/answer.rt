@@ -1,7 +1,7 @@
 //! How the module ends.
 
 ghost use Rattle.std.specs.Prelude.{◌≡◌};
-ghost use Rattle.file_module.specs.Answers.{act_of, act_number};
+ghost use Rattle.file_module.specs.Answers.{act_of, number_of};
 
 /// How the module ended, which is the status of its program.
 #[derive(Clone, Copy, Debug, PartialEq, Eq)]
@@ -22,7 +22,7 @@ pub enum FileAct {
 impl FileAct {
     /// The status of the program.
     pub fn number(self) -> u8
-        ensures { result ≡ act_number self }
+        ensures { result ≡ number_of self }
     {
         match self {
             FileAct::Done => 0,

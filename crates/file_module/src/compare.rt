@@ -1,8 +1,8 @@
 //! Whether the target is what is saved.
 
-ghost use Rattle.std.specs.Prelude.{◌≡◌, ◌≢◌, ◌<◌, ◌-◌, true, Some, length, option_map, IfErr, IfOk, OnOk, MatchBool};
+ghost use Rattle.std.specs.Prelude.{◌≡◌, ◌<◌, ◌-◌, true, Some, length, option_map, IfErr, IfOk, OnOk};
 ghost use Rattle.file_module.specs.Contents.{InContent, WhenTold};
-ghost use Rattle.file_module.specs.Copying.{piece, rest};
+ghost use Rattle.file_module.specs.Copying.{IsBack, IsSamePiece, Tells};
 ghost use Rattle.file_module.specs.Answers.{act_of, IsOfPlace, Untouched};
 
 use crate::answer::Stop;
@@ -29,7 +29,7 @@ fn is_same_piece<P: Place>(
     ensures cause { IfErr result IsOfPlace }
     ensures into { length into.new ≡ length into.old }
     ensures beside { length beside.new ≡ length beside.old }
-    ensures same { IfOk result (λ same. WhenTold (P.means place.old) (MatchBool same (piece at (length into.old) (P.means place.old).saved ≡ piece (at - 1) (length into.old) (P.means place.old).target) (piece at (length into.old) (P.means place.old).saved ≢ piece (at - 1) (length into.old) (P.means place.old).target))) }
+    ensures same { IfOk result (λ same. WhenTold (P.means place.old) (Tells same (IsSamePiece at (length into.old) (P.means place.old)))) }
 {
     read(place, Slot::Saved, at, into)?;
     read(place, Slot::Target, at - 1, beside)?;
@@ -47,7 +47,7 @@ fn has_saved_bytes<P: Place>(place: &mut P, size: u64, buffer: &mut [u8]) -> Res
     ensures untouched { Untouched (act_of result) (P.means place.old) (P.means place.new) }
     ensures cause { IfErr result IsOfPlace }
     ensures buffer { length buffer.new ≡ length buffer.old }
-    ensures same { IfOk result (λ same. WhenTold (P.means place.old) (MatchBool same ((P.means place.old).target ≡ Some (rest 1 (P.means place.old).saved)) ((P.means place.old).target ≢ Some (rest 1 (P.means place.old).saved)))) }
+    ensures same { IfOk result (λ same. WhenTold (P.means place.old) (Tells same (IsBack (P.means place.old)))) }
 {
     let mut beside = [0u8; PIECE];
     let mut at: u64 = 1;
@@ -73,7 +73,7 @@ pub(crate) fn is_back<P: Place>(place: &mut P, size: u64, buffer: &mut [u8]) -> 
     ensures cause { IfErr result IsOfPlace }
     ensures buffer { length buffer.new ≡ length buffer.old }
     ensures regular { OnOk result (WhenTold (P.means place.old) ((P.means place.old).regular ≡ true)) }
-    ensures same { IfOk result (λ same. WhenTold (P.means place.old) (MatchBool same ((P.means place.old).target ≡ Some (rest 1 (P.means place.old).saved)) ((P.means place.old).target ≢ Some (rest 1 (P.means place.old).saved)))) }
+    ensures same { IfOk result (λ same. WhenTold (P.means place.old) (Tells same (IsBack (P.means place.old)))) }
 {
     match length(place, Slot::Target)? {
         Some(count) if count == size - 1 => has_saved_bytes(place, size, buffer),

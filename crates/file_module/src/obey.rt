@@ -20,14 +20,9 @@ pub(crate) fn clear<P: Place>(place: &mut P) -> Result<(), Stop>
     ensures clears { Clears (act_of result) (P.means place.old) (P.means place.new) }
     ensures cause { IfErr result IsOfPlace }
 {
-    match remove_saved(place) {
-        Ok(()) => {}
-        Err(stop) => return Err(stop),
-    }
-    match remove_fresh(place) {
-        Ok(()) => Ok(()),
-        Err(stop) => Err(stop),
-    }
+    remove_saved(place)?;
+    remove_fresh(place)?;
+    Ok(())
 }
 
 /// Sees that the target is a file or absent.
@@ -39,10 +34,8 @@ fn look<P: Place>(place: &mut P) -> Result<(), Stop>
     ensures untouched { Untouched (act_of result) (P.means place.old) (P.means place.new) }
     ensures regular { OnOk result (WhenTold (P.means place.old) ((P.means place.old).regular ≡ true)) }
 {
-    match length(place, Slot::Target) {
-        Ok(_) => Ok(()),
-        Err(stop) => Err(stop),
-    }
+    length(place, Slot::Target)?;
+    Ok(())
 }
 
 /// Sees that there is one payload file and that the target is a file or absent, and forgets what an earlier deployment saved.
@@ -54,18 +47,10 @@ pub(crate) fn download<S: Source, P: Place>(source: &mut S, place: &mut P) -> Re
     ensures counts { S.faults source.new ≡ source_after (act_of result) (S.faults source.old) }
     ensures downloads { Downloads (S.content source.old) (act_of result) (P.means place.old) (P.means place.new) }
 {
-    match find_payload(source) {
-        Ok(_) => {}
-        Err(stop) => return Err(stop),
-    }
-    match look(place) {
-        Ok(()) => {}
-        Err(stop) => return Err(stop),
-    }
-    match clear(place) {
-        Ok(()) => Ok(()),
-        Err(stop) => Err(stop),
-    }
+    find_payload(source)?;
+    look(place)?;
+    clear(place)?;
+    Ok(())
 }
 
 /// Saves the target where nothing is saved, and makes it the payload. What is neither a file nor absent is left as it is.
@@ -82,22 +67,11 @@ pub(crate) fn install<S: Source, P: Place>(
     ensures counts { S.faults source.new ≡ source_after (act_of result) (S.faults source.old) }
     ensures installs { Installs (S.content source.old) (act_of result) (P.means place.old) (P.means place.new) }
 {
-    let i = match find_payload(source) {
-        Ok(i) => i,
-        Err(stop) => return Err(stop),
-    };
-    match look(place) {
-        Ok(()) => {}
-        Err(stop) => return Err(stop),
-    }
-    match save_once(place, buffer) {
-        Ok(()) => {}
-        Err(stop) => return Err(stop),
-    }
-    match take_payload(source, place, i, buffer) {
-        Ok(()) => Ok(()),
-        Err(stop) => Err(stop),
-    }
+    let i = find_payload(source)?;
+    look(place)?;
+    save_once(place, buffer)?;
+    take_payload(source, place, i, buffer)?;
+    Ok(())
 }
 
 /// The first byte of what is saved. Condition: there is one.
@@ -112,10 +86,8 @@ fn saved_head<P: Place>(place: &mut P) -> Result<u8, Stop>
     ensures cause { IfErr result IsOfPlace }
 {
     let mut head = [0u8; 1];
-    match read(place, Slot::Saved, 0, &mut head) {
-        Ok(()) => Ok(head[0]),
-        Err(stop) => Err(stop),
-    }
+    read(place, Slot::Saved, 0, &mut head)?;
+    Ok(head[0])
 }
 
 /// Makes the target what is saved in so many bytes.
@@ -127,18 +99,12 @@ fn restore<P: Place>(place: &mut P, size: u64, buffer: &mut [u8]) -> Result<(), 
     requires some { 0 < length buffer.old }
     ensures rolls_back { RollsBack (act_of result) (P.means place.old) (P.means place.new) }
 {
-    match saved_head(place) {
-        Ok(0) => match give_absence(place) {
-            Ok(()) => Ok(()),
-            Err(stop) => Err(stop),
-        },
-        Ok(1) => match give_back(place, size, buffer) {
-            Ok(()) => Ok(()),
-            Err(stop) => Err(stop),
-        },
-        Ok(_) => Err(Stop::BadSaved),
-        Err(stop) => Err(stop),
+    match saved_head(place)? {
+        0 => give_absence(place)?,
+        1 => give_back(place, size, buffer)?,
+        _ => return Err(Stop::BadSaved),
     }
+    Ok(())
 }
 
 /// Makes the target what was saved, where something is and it isn't that already.
@@ -148,10 +114,9 @@ pub(crate) fn roll_back<P: Place>(place: &mut P, buffer: &mut [u8]) -> Result<()
     requires some { 0 < length buffer.old }
     ensures rolls_back { RollsBack (act_of result) (P.means place.old) (P.means place.new) }
 {
-    match length(place, Slot::Saved) {
-        Ok(None) => Ok(()),
-        Ok(Some(0)) => Err(Stop::BadSaved),
-        Ok(Some(size)) => restore(place, size, buffer),
-        Err(stop) => Err(stop),
+    match length(place, Slot::Saved)? {
+        None => Ok(()),
+        Some(0) => Err(Stop::BadSaved),
+        Some(size) => restore(place, size, buffer),
     }
 }

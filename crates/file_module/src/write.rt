@@ -106,10 +106,9 @@ pub(crate) fn give_back<P: Place>(place: &mut P, size: u64, buffer: &mut [u8]) -
     ensures gives { WhenTold (P.means place.old) (GivesBack (act_of result) (Some (rest 1 (P.means place.old).saved)) (P.means place.old) (P.means place.new)) }
     ensures cause { IfErr result IsOfPlace }
 {
-    match is_back(place, size, buffer) {
-        Ok(true) => Ok(()),
-        Ok(false) => bring_back(place, size, buffer),
-        Err(stop) => Err(stop),
+    match is_back(place, size, buffer)? {
+        true => Ok(()),
+        false => bring_back(place, size, buffer),
     }
 }
 
@@ -122,10 +121,9 @@ pub(crate) fn give_absence<P: Place>(place: &mut P) -> Result<(), Stop>
     ensures gives { WhenTold (P.means place.old) (GivesBack (act_of result) None (P.means place.old) (P.means place.new)) }
     ensures cause { IfErr result IsOfPlace }
 {
-    match length(place, Slot::Target) {
-        Ok(None) => Ok(()),
-        Ok(Some(_)) => remove_target(place),
-        Err(stop) => Err(stop),
+    match length(place, Slot::Target)? {
+        None => Ok(()),
+        Some(_) => remove_target(place),
     }
 }
 
@@ -148,18 +146,10 @@ fn write_file<S: Source, P: Place>(
     ensures settled { OnOk result ((P.means place.new).settled ≡ true) }
     ensures file { OnOk result (WhenTold (P.means place.old) (HoldsFile (S.content source.old) i (P.means place.new))) }
 {
-    match start(place) {
-        Ok(()) => {}
-        Err(stop) => return Err(stop),
-    }
-    match copy_file(source, place, i, buffer) {
-        Ok(()) => {}
-        Err(stop) => return Err(stop),
-    }
-    match settle(place) {
-        Ok(()) => Ok(()),
-        Err(stop) => Err(stop),
-    }
+    start(place)?;
+    copy_file(source, place, i, buffer)?;
+    settle(place)?;
+    Ok(())
 }
 
 /// Makes the target the payload, which is this file.
@@ -181,12 +171,7 @@ pub(crate) fn take_payload<S: Source, P: Place>(
     ensures replaces { WhenTold (P.means place.old) (Replaces (IsPayload (S.content source.old)) (act_of result) (P.means place.old) (P.means place.new)) }
     ensures cause { IfErr result IsOfWriting }
 {
-    match write_file(source, place, i, buffer) {
-        Ok(()) => {}
-        Err(stop) => return Err(stop),
-    }
-    match move_to_target(place) {
-        Ok(()) => Ok(()),
-        Err(stop) => Err(stop),
-    }
+    write_file(source, place, i, buffer)?;
+    move_to_target(place)?;
+    Ok(())
 }
