@@ -9,5 +9,5 @@ pub runs_sane : (old : Option Disk) (calls : List Called) → IsSane old → Run
 runs_sane old [] s r = tt
 runs_sane old (c ∷ calls) s r =
     let before : IsSane c.before.blocks.disk = λ area held. s area (r.0 area held) in
-    let after : IsSane c.after.blocks.disk = c.acts.sane before in
+    let after : IsSane c.after.blocks.disk = c.acts.stands.sane before in
     (λ area held. (before area held).chosen, λ area held. (after area held).chosen, runs_sane c.after.blocks.disk calls after r.1)

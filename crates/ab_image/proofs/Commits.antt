@@ -21,13 +21,14 @@ use Rattle.ab_image.specs.Layout.{choice_at, origin_at, other, chosen, Agree, Is
 use Rattle.ab_image.specs.Blocks.{Medium, EndsAs}
 use Rattle.ab_image.specs.Parts.{KeepsByte, Calm}
 use Rattle.ab_image.specs.Artifact.{is_type_info, listed_in, listed}
-use Rattle.ab_image.specs.Finding.{IsFound, NoSum, listed_at, faults_after}
+use Rattle.ab_image.specs.Finding.{IsFound, NoSum, listed_at}
 use Rattle.ab_image.specs.Choosing.{IsOtherReady, IsUnready, IsEitherBy, Chooses, choice_answer}
-use Rattle.ab_image.specs.Act.{Comes, HasNoSum, IsNotReady, IsCut, IsFor, IsEarly, Answered, ActsFor, WritesNothing, Rests, KeepsChoice, FoundReady, IsEither, how_of}
+use Rattle.ab_image.specs.Answers.{IsCut, IsProper, row_of, how_of, source_after, may_answer}
+use Rattle.ab_image.specs.Act.{Comes, HasNoSum, IsNotReady, Answered, ActsFor, WritesNothing, Rests, KeepsChoice, FoundReady, IsEither}
 use Rattle.ab_image.proofs.Areas.{choice-apart}
-use Rattle.ab_image.proofs.Alone.{when-all, if-all, within-boots}
+use Rattle.ab_image.proofs.Alone.{within-boots, off-answer}
 use Rattle.ab_image.proofs.Naming.{if-disk, where-both, names-kept, through-on}
-use Rattle.ab_image.proofs.Still.{source-ends, still-acts}
+use Rattle.ab_image.proofs.Still.{when-all, if-all, ends-still, still-acts}
 
 abbrev pub committed : Option ModuleWord
 committed = Some (State state.ArtifactCommit)
@@ -43,24 +44,21 @@ IsOfCommit answer.Off = ⊤
 IsOfCommit answer.NoMemory = ⊤
 IsOfCommit _ = ⊥
 
-for-commit : (size : ℕ) (result : AbAct) → IsOfCommit result → IsFor committed size result
-for-commit size answer.Done u = tt
-for-commit size answer.Usage u = absurd u
-for-commit size (answer.BadPayload n) u = absurd u
-for-commit size answer.NoChecksum u = inr refl
-for-commit size (answer.TooLong n) u = absurd u
-for-commit size (answer.Differs a b) u = absurd u
-for-commit size answer.NotReady u = refl
-for-commit size answer.DiskFault u = tt
-for-commit size answer.SourceFault u = tt
-for-commit size answer.SinkFault u = absurd u
-for-commit size answer.Off u = tt
-for-commit size answer.NoMemory u = inr refl
+row-commit : (size : ℕ) (result : AbAct) → IsOfCommit result → (may_answer committed result ≡ true) × IsProper size result
+row-commit size answer.Done u = (refl, tt)
+row-commit size answer.NoChecksum u = (refl, tt)
+row-commit size answer.NotReady u = (refl, tt)
+row-commit size answer.DiskFault u = (refl, tt)
+row-commit size answer.SourceFault u = (refl, tt)
+row-commit size answer.Off u = (refl, tt)
+row-commit size answer.NoMemory u = (refl, tt)
+row-commit size _ u = absurd u
 
 answered-commit : (content : Content) (old : Medium) (result : AbAct) → IsOfCommit result → When content (λ tree. Comes answer.NoChecksum (HasNoSum committed tree) result)
     → When content (λ tree. IfSome old.disk (λ d. Comes answer.NotReady (IsNotReady committed tree d.area) result)) → Answered committed content old result
 answered-commit content old result u sums ready = record {
-  is_for = for-commit old.size result u;
+  is_for = (row-commit old.size result u).0;
+  proper = (row-commit old.size result u).1;
   usage = (λ e. absurd (subst IsOfCommit e u), λ e. absurd cc);
   bad_payload = when-all content _ (λ tree n. record { only = λ e. absurd (subst IsOfCommit e u); always = λ h. let e = h.asked in absurd cc });
   no_checksum = sums;
@@ -101,37 +99,26 @@ cut result is meant other cause = record { only = λ e. absurd (other e); always
 
 cut-answered : (content : Content) (old : Medium) (result : AbAct) → IsOfCommit result → IsCut result → Answered committed content old result
 cut-answered content old result u is = answered-commit content old result u
-    (when-all content _ (λ tree. cut result is answer.NoChecksum (λ e. subst IsCut e is) (HasNoSum committed tree)))
-    (when-all content _ (λ tree. if-all old.disk _ (λ d. cut result is answer.NotReady (λ e. subst IsCut e is) (IsNotReady committed tree d.area))))
-
-same-medium : (blocks : Medium) → blocks.on ≡ true → EndsAs Through blocks blocks
-same-medium blocks on = record { size = refl; on = on; losses = refl; faults = refl }
+    (when-all content _ (λ tree. cut result is answer.NoChecksum (λ e. let no : false ≡ true = subst IsCut e is in cc) (HasNoSum committed tree)))
+    (when-all content _ (λ tree. if-all old.disk _ (λ d. cut result is answer.NotReady (λ e. let no : false ≡ true = subst IsCut e is in cc) (IsNotReady committed tree d.area))))
 
 -- a call of the source failed
 pub faulted-acts : (content : Content) (faults after : ℕ) (blocks : Medium) (sink : Written) → blocks.on ≡ true → after ≡ counted faults
     → ActsFor committed content (record { source_faults = faults; blocks = blocks; sink = sink }) (record { source_faults = after; blocks = blocks; sink = sink }) answer.SourceFault
 faulted-acts content faults after blocks sink on e =
-    still-acts committed content faults after blocks sink answer.SourceFault (cut-answered content blocks answer.SourceFault tt tt) (same-medium blocks on) (source-ends faults after answer.SourceFault e) (λ e. absurd cc, refl) (λ e. absurd cc)
+    still-acts committed content faults after blocks sink sink answer.SourceFault (cut-answered content blocks answer.SourceFault tt refl) (record { ends = ends-still Through blocks refl on; source = e }) (λ e. absurd cc, refl) (λ e. absurd cc)
 
 -- no sum is listed, or none was read
-pub unlisted-acts : (content : Content) (faults after : ℕ) (blocks : Medium) (sink : Written) (type_info : Option ℕ) (stop : AbAct) → blocks.on ≡ true → after ≡ faults_after faults stop
+pub unlisted-acts : (content : Content) (faults after : ℕ) (blocks : Medium) (sink : Written) (type_info : Option ℕ) (stop : AbAct) → blocks.on ≡ true → after ≡ source_after stop faults
     → NoSum content type_info stop → (When content (λ tree. listed_at tree type_info ≡ None) → When content (λ tree. listed tree ≡ None))
     → ActsFor committed content (record { source_faults = faults; blocks = blocks; sink = sink }) (record { source_faults = after; blocks = blocks; sink = sink }) stop
 unlisted-acts content faults after blocks sink type_info answer.NoChecksum on e h lists =
-    still-acts committed content faults after blocks sink answer.NoChecksum (answered-commit content blocks answer.NoChecksum tt (no-sum content (lists h)) (unlisted content blocks.disk (lists h)))
-    (same-medium blocks on) (source-ends faults after answer.NoChecksum e) (λ e. absurd cc, refl) (λ e. absurd cc)
+    still-acts committed content faults after blocks sink sink answer.NoChecksum (answered-commit content blocks answer.NoChecksum tt (no-sum content (lists h)) (unlisted content blocks.disk (lists h)))
+    (record { ends = ends-still Through blocks refl on; source = e }) (λ e. absurd cc, refl) (λ e. absurd cc)
 unlisted-acts content faults after blocks sink type_info answer.SourceFault on e h lists = faulted-acts content faults after blocks sink on e
 unlisted-acts content faults after blocks sink type_info answer.NoMemory on e h lists =
-    still-acts committed content faults after blocks sink answer.NoMemory (cut-answered content blocks answer.NoMemory tt tt) (same-medium blocks on) (source-ends faults after answer.NoMemory e) (λ e. absurd cc, refl) (λ e. absurd cc)
-unlisted-acts content faults after blocks sink type_info answer.Done on e h lists = absurd h
-unlisted-acts content faults after blocks sink type_info answer.Usage on e h lists = absurd h
-unlisted-acts content faults after blocks sink type_info (answer.BadPayload n) on e h lists = absurd h
-unlisted-acts content faults after blocks sink type_info (answer.TooLong n) on e h lists = absurd h
-unlisted-acts content faults after blocks sink type_info (answer.Differs a b) on e h lists = absurd h
-unlisted-acts content faults after blocks sink type_info answer.NotReady on e h lists = absurd h
-unlisted-acts content faults after blocks sink type_info answer.DiskFault on e h lists = absurd h
-unlisted-acts content faults after blocks sink type_info answer.SinkFault on e h lists = absurd h
-unlisted-acts content faults after blocks sink type_info answer.Off on e h lists = absurd h
+    still-acts committed content faults after blocks sink sink answer.NoMemory (cut-answered content blocks answer.NoMemory tt refl) (record { ends = ends-still Through blocks refl on; source = e }) (λ e. absurd cc, refl) (λ e. absurd cc)
+unlisted-acts content faults after blocks sink type_info _ on e h lists = absurd h
 
 -- ---- a sum is listed
 
@@ -169,8 +156,8 @@ module _ (content : Content) (sum : List ℕ) (lists : When content (λ tree. li
   answered-choice : (r : Result Bool Down) → Chooses sum old r new → Answered committed content old (choice_answer r)
   answered-choice (Ok true) c = answered-commit content old answer.Done tt (sum-listed answer.Done (λ e. absurd cc)) (was-ready old.disk c.found)
   answered-choice (Ok false) c = answered-commit content old answer.NotReady tt (sum-listed answer.NotReady (λ e. absurd cc)) (wasnt-ready old.disk c.found)
-  answered-choice (Err Off) c = cut-answered content old answer.Off tt tt
-  answered-choice (Err Fault) c = cut-answered content old answer.DiskFault tt tt
+  answered-choice (Err Off) c = cut-answered content old answer.Off tt refl
+  answered-choice (Err Fault) c = cut-answered content old answer.DiskFault tt refl
 
   found-ready : (area : List ℕ) → Agree area → IsOtherReady sum area → FoundReady content area
   found-ready area agree r = record { agree = agree; sum = sum; listed = lists; ready = r }
@@ -200,13 +187,7 @@ choice-ends (Ok false) old new h = h
 choice-ends (Err Off) old new h = h
 choice-ends (Err Fault) old new h = h
 
-choice-off : (r : Result Bool Down) (old new : Medium) → EndsAs (down_how r) old new → new.on ≡ false → choice_answer r ≡ answer.Off
-choice-off (Ok true) old new h off = let no : true ≡ false = sym h.on ∙ off in absurd cc
-choice-off (Ok false) old new h off = let no : true ≡ false = sym h.on ∙ off in absurd cc
-choice-off (Err Off) old new h off = refl
-choice-off (Err Fault) old new h off = let no : true ≡ false = sym h.on ∙ off in absurd cc
-
-choice-faults : (r : Result Bool Down) (n : ℕ) → n ≡ faults_after n (choice_answer r)
+choice-faults : (r : Result Bool Down) (n : ℕ) → n ≡ source_after (choice_answer r) n
 choice-faults (Ok true) n = refl
 choice-faults (Ok false) n = refl
 choice-faults (Err Off) n = refl
@@ -218,11 +199,11 @@ choice-sink (Ok false) e = absurd cc
 choice-sink (Err Off) e = absurd cc
 choice-sink (Err Fault) e = absurd cc
 
-choice-early : (sum : List ℕ) (old : Medium) (r : Result Bool Down) (new : Medium) → Chooses sum old r new → IsEarly (choice_answer r) → WritesNothing old new
-choice-early sum old (Ok true) new c e = absurd e
+choice-early : (sum : List ℕ) (old : Medium) (r : Result Bool Down) (new : Medium) → Chooses sum old r new → (row_of (choice_answer r)).early ≡ true → WritesNothing old new
+choice-early sum old (Ok true) new c e = absurd cc
 choice-early sum old (Ok false) new c e = c.leaves
-choice-early sum old (Err Off) new c e = absurd e
-choice-early sum old (Err Fault) new c e = absurd e
+choice-early sum old (Err Off) new c e = absurd cc
+choice-early sum old (Err Fault) new c e = absurd cc
 
 choice-done : (sum : List ℕ) (old : Medium) (r : Result Bool Down) (new : Medium) → Chooses sum old r new → choice_answer r ≡ answer.Done → IsSettled new.disk × WhereTold (λ d e. Agree d.area → chosen e.area ≡ other (chosen d.area)) old.disk new.disk
 choice-done sum old (Ok true) new c e = (c.leaves.settled, c.leaves.other)
@@ -245,25 +226,28 @@ pub chooses-acts : (content : Content) (faults : ℕ) (sum : List ℕ) (old new 
     → ActsFor committed content (record { source_faults = faults; blocks = old; sink = sink }) (record { source_faults = faults; blocks = new; sink = sink }) (choice_answer r)
 chooses-acts content faults sum old new sink r lists c = record {
   answered = answered-choice content sum lists old new r c;
-  ends = choice-ends r old new c.ends;
-  source_ends = source-ends faults faults (choice_answer r) (choice-faults r faults);
+  counted = record { ends = choice-ends r old new c.ends; source = choice-faults r faults };
   says = (choice-sink r, refl);
-  early = choice-early sum old r new c;
-  sane = c.sane;
-  boots = within-boots (IsApart choice_at 1) choice-apart old new c.within;
-  idle = λ i. absurd i;
-  nothing_to_do = if-disk (λ area. Agree area → ⊥) (Calm old r new) (Rests (choice_answer r) old new) old.disk (rests-choice r old new) c.calm;
-  named = λ e. where-both _ _ old.disk new.disk
-      (through-choice r _ e c.named)
-      (names-kept origin_at new (through-on _ old new (choice-ends r old new c.ends) e) old.disk new.disk (c.within.bytes origin_at (inr (omega arith))));
-  keeps_choice = λ h. absurd (h (inl refl));
-  choice_alone = λ m. c.within;
-  origin_alone = λ e. absurd cc;
-  download_alone = λ e. absurd cc;
-  commits = λ e. keeps content sum lists old new (choice_answer r) (choice-off r old new c.ends) old.disk new.disk c.written;
-  commit_cut = λ e sane. either content sum lists old new old.disk new.disk (c.either sane);
-  download_done = λ e. absurd cc;
-  cleanup_done = λ e. absurd cc;
-  commit_done = λ e done. choice-done sum old r new c done;
+  stands = record {
+    sane = c.sane;
+    boots = within-boots (IsApart choice_at 1) choice-apart old new c.within;
+    named = λ e. where-both _ _ old.disk new.disk
+        (through-choice r _ e c.named)
+        (names-kept origin_at new (through-on _ old new (choice-ends r old new c.ends) e) old.disk new.disk (c.within.bytes origin_at (inr (omega arith))));
+  };
+  writing = record {
+    early = choice-early sum old r new c;
+    idle = λ e. absurd cc;
+    nothing_to_do = if-disk (λ area. Agree area → ⊥) (Calm old r new) (Rests (choice_answer r) old new) old.disk (rests-choice r old new) c.calm;
+    keeps_choice = λ e. absurd cc;
+    choice_alone = λ e. c.within;
+  };
+  downloads = λ e. absurd cc;
+  commits = λ e. record {
+    commits = keeps content sum lists old new (choice_answer r) (off-answer (choice_answer r) old new (choice-ends r old new c.ends)) old.disk new.disk c.written;
+    commit_cut = λ sane. either content sum lists old new old.disk new.disk (c.either sane);
+    commit_done = λ done. choice-done sum old r new c done;
+  };
   rollback_done = λ e. absurd cc;
+  cleans_up = λ e. absurd cc;
 }

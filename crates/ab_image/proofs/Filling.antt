@@ -16,7 +16,7 @@ use Rattle.ab_image.specs.declared.report.AbAct.{AbAct}
 use Rattle.ab_image.specs.declared.report.AbAct.TheVariants as answer
 use Rattle.ab_image.specs.Blocks.{Medium, IsMedium, EndsWrite, EndsAs}
 use Rattle.ab_image.specs.Parts.{Touches}
-use Rattle.ab_image.specs.Act.{how_of, stopped_by}
+use Rattle.ab_image.specs.Answers.{how_of, stopped_by}
 use Rattle.ab_image.specs.Taking.{Spares, HasFront}
 use Rattle.ab_image.proofs.Steps.{failed, went, write-ends, write-told, write-touches, ends-then, told-then}
 

@@ -17,7 +17,7 @@ use Rattle.ab_image.specs.declared.report.AbAct.TheVariants as answer
 use Rattle.ab_image.specs.Layout.{choice_at, origin_at, record_at, record_size, partition_at, partition_size, named_by, other, chosen, origin, IsBeside, IsSpared, Agree, StaysOrNames, Whole, IsSane}
 use Rattle.ab_image.specs.Blocks.{Medium, IsMedium, EndsAs}
 use Rattle.ab_image.specs.Parts.{Touches, BothTold, KeepsByte, Within, Calm, Settles, Sets, Cleans}
-use Rattle.ab_image.specs.Act.{how_of, stopped_by}
+use Rattle.ab_image.specs.Answers.{how_of, stopped_by}
 use Rattle.ab_image.specs.Taking.{IsFree, HasFront, Spares, Frees, Stores}
 use Rattle.ab_image.proofs.Steps.{ends-then, ends-err, calm-err, calm-ok, calm-then}
 use Rattle.ab_image.proofs.Filling.{stop-ends, touches-wider, spares-wider, spares-then, when-map}

@@ -1,8 +1,7 @@
 -- What Download answers and leaves once it has found an image.
-use Rattle.std.proofs.Common.{◌≡◌, ◌⊎◌, inl, inr, ℕ, ◌≤◌, true, false, List, length, refl, sym, ◌∙◌, ap, subst, arith}
+use Rattle.std.proofs.Common.{◌≡◌, ◌⊎◌, inl, inr, ℕ, ◌≤◌, true, List, length, refl, sym, ◌∙◌, ap, subst, arith}
 use Rattle.std.specs.Prelude.{Option, Some, None, IfSome}
 use Rattle.sha2.specs.Sha256.{sha256}
-use Rattle.upd_text.specs.Counts.{counted}
 use Rattle.io_model.specs.Source.{Tree, Content, When, IsLength, bytes_at}
 use Rattle.io_model.specs.Source.Content.{Told, Untold}
 use Rattle.io_model.specs.Sink.{Written}
@@ -11,61 +10,45 @@ use Rattle.ab_image.specs.declared.image.Image.{Image}
 use Rattle.ab_image.specs.declared.report.AbAct.{AbAct}
 use Rattle.ab_image.specs.declared.report.AbAct.TheVariants as answer
 use Rattle.ab_image.specs.Layout.{choice_at, partition_size, other, chosen, Agree, Whole}
-use Rattle.ab_image.specs.Blocks.{Medium, EndsAs}
+use Rattle.ab_image.specs.Blocks.{Medium}
 use Rattle.ab_image.specs.Parts.{BothTold}
 use Rattle.ab_image.specs.Artifact.{image_of, listed}
 use Rattle.ab_image.specs.Finding.{IsImageOf}
-use Rattle.ab_image.specs.Act.{Comes, IsCut, HasCount, HasNoSum, IsTooLong, HasOtherSum, IsFor, IsEarly, Answered, ActsFor, SourceEnds, HoldsImage, how_of}
+use Rattle.ab_image.specs.Answers.{IsCut, IsProper, row_of, source_after, may_answer}
+use Rattle.ab_image.specs.Act.{Comes, HasCount, HasNoSum, IsTooLong, HasOtherSum, Answered, ActsFor, HoldsImage}
 use Rattle.ab_image.specs.Taking.{Judges, Stores}
 use Rattle.ab_image.proofs.Steps.{told-any}
 use Rattle.ab_image.proofs.Naming.{where-both, names-kept, through-on}
-use Rattle.ab_image.proofs.Alone.{neither, when-all, if-all, choice-byte}
+use Rattle.ab_image.proofs.Alone.{choice-byte, off-answer}
+use Rattle.ab_image.proofs.Still.{when-all, if-all}
 use Rattle.ab_image.proofs.Unfound.{download, same-some, some-none}
 
 -- ---- by the answer
 
 module _ (content : Content) (file : ℕ) (listing : List ℕ) where
-  for-judged : (size : ℕ) (r : AbAct) → Judges content file listing r → IsFor download size r
-  for-judged size answer.Done j = tt
-  for-judged size answer.Usage j = absurd j
-  for-judged size (answer.BadPayload n) j = absurd j
-  for-judged size answer.NoChecksum j = absurd j
-  for-judged size (answer.TooLong n) j = absurd j
-  for-judged size (answer.Differs a b) j = (refl, j.1)
-  for-judged size answer.NotReady j = absurd j
-  for-judged size answer.DiskFault j = tt
-  for-judged size answer.SourceFault j = tt
-  for-judged size answer.SinkFault j = absurd j
-  for-judged size answer.Off j = tt
-  for-judged size answer.NoMemory j = absurd j
+  for-judged : (r : AbAct) → Judges content file listing r → may_answer download r ≡ true
+  for-judged answer.Done j = refl
+  for-judged (answer.Differs a b) j = refl
+  for-judged answer.DiskFault j = refl
+  for-judged answer.SourceFault j = refl
+  for-judged answer.Off j = refl
+  for-judged _ j = absurd j
 
-  late-judged : (r : AbAct) → Judges content file listing r → IsEarly r → ⊥
-  late-judged answer.Done j e = e
-  late-judged answer.Usage j e = j
-  late-judged (answer.BadPayload n) j e = j
-  late-judged answer.NoChecksum j e = j
-  late-judged (answer.TooLong n) j e = j
-  late-judged (answer.Differs a b) j e = e
-  late-judged answer.NotReady j e = j
-  late-judged answer.DiskFault j e = e
-  late-judged answer.SourceFault j e = e
-  late-judged answer.SinkFault j e = j
-  late-judged answer.Off j e = e
-  late-judged answer.NoMemory j e = j
+  proper-judged : (size : ℕ) (r : AbAct) → Judges content file listing r → IsProper size r
+  proper-judged size answer.Done j = tt
+  proper-judged size (answer.Differs a b) j = j.1
+  proper-judged size answer.DiskFault j = tt
+  proper-judged size answer.SourceFault j = tt
+  proper-judged size answer.Off j = tt
+  proper-judged size _ j = absurd j
 
-  off-judged : (r : AbAct) (old new : Medium) → Judges content file listing r → EndsAs (how_of r) old new → new.on ≡ false → r ≡ answer.Off
-  off-judged answer.Done old new j h off = let no : true ≡ false = sym h.on ∙ off in absurd cc
-  off-judged answer.Usage old new j h off = absurd j
-  off-judged (answer.BadPayload n) old new j h off = absurd j
-  off-judged answer.NoChecksum old new j h off = absurd j
-  off-judged (answer.TooLong n) old new j h off = absurd j
-  off-judged (answer.Differs a b) old new j h off = let no : true ≡ false = sym h.on ∙ off in absurd cc
-  off-judged answer.NotReady old new j h off = absurd j
-  off-judged answer.DiskFault old new j h off = let no : true ≡ false = sym h.on ∙ off in absurd cc
-  off-judged answer.SourceFault old new j h off = let no : true ≡ false = sym h.on ∙ off in absurd cc
-  off-judged answer.SinkFault old new j h off = absurd j
-  off-judged answer.Off old new j h off = refl
-  off-judged answer.NoMemory old new j h off = absurd j
+  late-judged : (r : AbAct) → Judges content file listing r → (row_of r).early ≡ true → ⊥
+  late-judged answer.Done j e = cc
+  late-judged (answer.Differs a b) j e = cc
+  late-judged answer.DiskFault j e = cc
+  late-judged answer.SourceFault j e = cc
+  late-judged answer.Off j e = cc
+  late-judged _ j e = j
 
 -- ---- the causes, where the files are told
 
@@ -82,20 +65,14 @@ module _ (tree : Tree) (image : Image) (size : ℕ) (finds : IsImageOf tree imag
   differs-always : (sum found : List ℕ) (r : AbAct) → Judged r → HasOtherSum download tree size sum found → (r ≡ answer.Differs sum found) ⊎ IsCut r
   differs-always sum found answer.Done j h =
       absurd (h.differs (same-sum sum h.finds.is_listed ∙ j ∙ ap sha256 (sym (same-image h.image h.finds.is_image)) ∙ sym h.is_found))
-  differs-always sum found answer.Usage j h = absurd j
-  differs-always sum found (answer.BadPayload n) j h = absurd j
-  differs-always sum found answer.NoChecksum j h = absurd j
-  differs-always sum found (answer.TooLong n) j h = absurd j
   differs-always sum found (answer.Differs a b) j h =
       let first : a ≡ sum = j.0 ∙ sym (same-sum sum h.finds.is_listed) in
       let second : b ≡ found = j.2 ∙ ap sha256 (sym (same-image h.image h.finds.is_image)) ∙ sym h.is_found in
       inl cc
-  differs-always sum found answer.NotReady j h = absurd j
-  differs-always sum found answer.DiskFault j h = inr tt
-  differs-always sum found answer.SourceFault j h = inr tt
-  differs-always sum found answer.SinkFault j h = absurd j
-  differs-always sum found answer.Off j h = inr tt
-  differs-always sum found answer.NoMemory j h = absurd j
+  differs-always sum found answer.DiskFault j h = inr refl
+  differs-always sum found answer.SourceFault j h = inr refl
+  differs-always sum found answer.Off j h = inr refl
+  differs-always sum found _ j h = absurd j
 
   module _ (r : AbAct) (j : Judged r) where
     no-count : (k : ℕ) → Comes (answer.BadPayload k) (HasCount download tree k) r
@@ -149,7 +126,8 @@ module _ (image : Image) (old : Medium) (fits : image.size ≤ partition_size ol
 
   pub answered-taken : (c : Content) → When c (λ tree. IsImageOf tree image) → IsLength c image.file image.size → Judges c image.file image.listed r → Answered download c old r
   answered-taken c f l j = record {
-    is_for = for-judged c image.file image.listed old.size r j;
+    is_for = for-judged c image.file image.listed r j;
+    proper = proper-judged c image.file image.listed old.size r j;
     usage = (λ e. absurd (subst (λ (a : AbAct). Judges c image.file image.listed a) e j), λ e. absurd cc);
     bad_payload = count-told c f l j;
     no_checksum = sum-told c f l j;
@@ -179,29 +157,31 @@ pub record IsTaken (c : Content) (file : ℕ) (new : Option Disk) : Type 0 where
   pub whole : When c (λ t. IfSome new (λ d. Whole d.area (other (chosen d.area)) (bytes_at t file)))
 
 pub taken-acts : (c : Content) (image : Image) (before between behind : ℕ) (old new : Medium) (sink : Written) (r : AbAct) → When c (λ tree. IsImageOf tree image) → IsLength c image.file image.size → image.size ≤ partition_size old.size → between ≡ before
-    → SourceEnds between behind r → Judges c image.file image.listed r → Stores r old new → (r ≡ answer.Done → IsTaken c image.file new.disk)
+    → behind ≡ source_after r between → Judges c image.file image.listed r → Stores r old new → (r ≡ answer.Done → IsTaken c image.file new.disk)
     → ActsFor download c (record { source_faults = before; blocks = old; sink = sink }) (record { source_faults = behind; blocks = new; sink = sink }) r
 taken-acts c image before between behind old new sink r f l fits counts source j s taken =
     let not : (a : AbAct) → r ≡ a → Judges c image.file image.listed a = λ a e. subst (λ (a : AbAct). Judges c image.file image.listed a) e j in
     record {
       answered = answered-taken image old fits r c f l j;
-      ends = s.ends;
-      source_ends = record { failed = λ e. source.failed e ∙ ap counted counts; else = λ ne. source.else ne ∙ counts };
+      counted = record { ends = s.ends; source = source ∙ ap (λ (n : ℕ). source_after r n) counts };
       says = (λ e. absurd (not answer.SinkFault e), refl);
-      early = λ e. absurd (late-judged c image.file image.listed r j e);
-      sane = s.sane;
-      boots = s.boots;
-      idle = λ i. absurd i;
-      nothing_to_do = if-all old.disk _ (λ d nothing. absurd nothing);
-      named = λ e. where-both _ _ old.disk new.disk (names-kept choice_at new (through-on _ old new s.ends e) old.disk new.disk s.choice) (s.named e);
-      keeps_choice = λ h. choice-byte r new (off-judged c image.file image.listed r old new j s.ends) old.disk new.disk s.choice;
-      choice_alone = λ m. absurd (neither _ _ (λ e. absurd cc) (λ e. absurd cc) m);
-      origin_alone = λ e. absurd cc;
-      download_alone = λ e. s.spared;
+      stands = record {
+        sane = s.sane;
+        boots = s.boots;
+        named = λ e. where-both _ _ old.disk new.disk (names-kept choice_at new (through-on _ old new s.ends e) old.disk new.disk s.choice) (s.named e);
+      };
+      writing = record {
+        early = λ e. absurd (late-judged c image.file image.listed r j e);
+        idle = λ e. absurd cc;
+        nothing_to_do = if-all old.disk _ (λ d nothing. absurd nothing);
+        keeps_choice = λ e. choice-byte r new (λ off. off-answer r old new s.ends off) old.disk new.disk s.choice;
+        choice_alone = λ e. absurd cc;
+      };
+      downloads = λ w. record {
+        download_alone = s.spared;
+        download_done = λ e. let t = taken e in (t.settled, holds-told c image old.disk new.disk (told-any _ old.disk new.disk s.choice) f (not answer.Done e) t.agree t.whole);
+      };
       commits = λ e. absurd cc;
-      commit_cut = λ e. absurd cc;
-      download_done = λ w e. let t = taken e in (t.settled, holds-told c image old.disk new.disk (told-any _ old.disk new.disk s.choice) f (not answer.Done e) t.agree t.whole);
-      cleanup_done = λ e. absurd cc;
-      commit_done = λ e. absurd cc;
       rollback_done = λ e. absurd cc;
+      cleans_up = λ e. absurd cc;
     }

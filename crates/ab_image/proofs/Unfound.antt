@@ -1,22 +1,22 @@
 -- What Download answers and leaves where it finds no image that it may take.
 use Rattle.std.proofs.Common.{◌≡◌, ◌⊎◌, inl, inr, ℕ, ◌<◌, true, List, length, refl, sym, ◌∙◌, ap, subst, arith}
-use Rattle.std.specs.Prelude.{◌≢◌, Option, Some, None}
+use Rattle.std.specs.Prelude.{Option, Some, None}
 use Rattle.io_model.specs.Source.{Tree, Content, When}
 use Rattle.io_model.specs.Source.Content.{Told, Untold}
 use Rattle.io_model.specs.Sink.{Written}
+use Rattle.device_model.specs.How.{Through}
 use Rattle.device_model.specs.declared.calls.ModState.TheVariants as state
 use Rattle.device_model.specs.declared.module_word.ModuleWord.{ModuleWord}
 use Rattle.device_model.specs.declared.module_word.ModuleWord.TheVariants.{State}
-use Rattle.device_model.proofs.Keeps.{same}
 use Rattle.ab_image.specs.declared.report.AbAct.{AbAct}
 use Rattle.ab_image.specs.declared.report.AbAct.TheVariants as answer
-use Rattle.ab_image.specs.Layout.{partition_size, IsSpared}
-use Rattle.ab_image.specs.Blocks.{Medium, EndsAs}
+use Rattle.ab_image.specs.Layout.{partition_size}
+use Rattle.ab_image.specs.Blocks.{Medium}
 use Rattle.ab_image.specs.Artifact.{count_images, image_of, listed}
-use Rattle.ab_image.specs.Finding.{NoImage, faults_after}
-use Rattle.ab_image.specs.Act.{Comes, IsCut, FindsImage, HasCount, HasNoSum, IsTooLong, HasOtherSum, IsFor, Answered, ActsFor, KeepsChoice, how_of}
-use Rattle.ab_image.proofs.Alone.{neither, when-all, if-all, where-refl, names-both}
-use Rattle.ab_image.proofs.Still.{within-still}
+use Rattle.ab_image.specs.Finding.{NoImage}
+use Rattle.ab_image.specs.Answers.{IsCut, IsProper, how_of, source_after, may_answer}
+use Rattle.ab_image.specs.Act.{Comes, FindsImage, HasCount, HasNoSum, IsTooLong, HasOtherSum, Answered, ActsFor}
+use Rattle.ab_image.proofs.Still.{when-all, if-all, ends-still, still-acts}
 
 abbrev pub download : Option ModuleWord
 download = Some (State state.Download)
@@ -29,19 +29,21 @@ pub some-none : {A : Type 0} (o : Option A) (a : A) → o ≡ Some a → o ≡ N
 some-none o a e f = let both : Some a ≡ None = sym e ∙ f in absurd cc
 
 module _ (content : Content) (most : ℕ) where
-  for-unfound : (size : ℕ) (stop : AbAct) → most ≡ partition_size size → NoImage content most stop → IsFor download size stop
-  for-unfound size answer.Done is n = absurd n
-  for-unfound size answer.Usage is n = absurd n
-  for-unfound size (answer.BadPayload k) is n = (refl, n.0)
-  for-unfound size answer.NoChecksum is n = inl refl
-  for-unfound size (answer.TooLong k) is n = (refl, subst (λ (m : ℕ). m < k) is n.0)
-  for-unfound size (answer.Differs a b) is n = absurd n
-  for-unfound size answer.NotReady is n = absurd n
-  for-unfound size answer.DiskFault is n = absurd n
-  for-unfound size answer.SourceFault is n = tt
-  for-unfound size answer.SinkFault is n = absurd n
-  for-unfound size answer.Off is n = absurd n
-  for-unfound size answer.NoMemory is n = inl refl
+  row-unfound : (stop : AbAct) → NoImage content most stop → (may_answer download stop ≡ true) × (how_of stop ≡ Through)
+  row-unfound (answer.BadPayload k) n = (refl, refl)
+  row-unfound answer.NoChecksum n = (refl, refl)
+  row-unfound (answer.TooLong k) n = (refl, refl)
+  row-unfound answer.SourceFault n = (refl, refl)
+  row-unfound answer.NoMemory n = (refl, refl)
+  row-unfound _ n = absurd n
+
+  proper-unfound : (size : ℕ) (stop : AbAct) → most ≡ partition_size size → NoImage content most stop → IsProper size stop
+  proper-unfound size (answer.BadPayload k) is n = n.0
+  proper-unfound size (answer.TooLong k) is n = subst (λ (m : ℕ). m < k) is n.0
+  proper-unfound size answer.NoChecksum is n = tt
+  proper-unfound size answer.SourceFault is n = tt
+  proper-unfound size answer.NoMemory is n = tt
+  proper-unfound size _ is n = absurd n
 
 -- ---- the causes, where the files are told
 
@@ -50,18 +52,12 @@ module _ (tree : Tree) (size : ℕ) where
   Unfound stop = NoImage (Told tree) (partition_size size) stop
 
   count-always : (k : ℕ) (stop : AbAct) → Unfound stop → HasCount download tree k → (stop ≡ answer.BadPayload k) ⊎ IsCut stop
-  count-always k answer.Done n h = absurd n
-  count-always k answer.Usage n h = absurd n
   count-always k (answer.BadPayload j) n h = inl (ap (λ (i : ℕ). answer.BadPayload i) (n.1 ∙ sym h.is_count))
   count-always k answer.NoChecksum n h = absurd (h.wrong (h.is_count ∙ n.0))
   count-always k (answer.TooLong j) n h = absurd (h.wrong (h.is_count ∙ n.1.one))
-  count-always k (answer.Differs a b) n h = absurd n
-  count-always k answer.NotReady n h = absurd n
-  count-always k answer.DiskFault n h = absurd n
-  count-always k answer.SourceFault n h = inr tt
-  count-always k answer.SinkFault n h = absurd n
-  count-always k answer.Off n h = absurd n
-  count-always k answer.NoMemory n h = inr tt
+  count-always k answer.SourceFault n h = inr refl
+  count-always k answer.NoMemory n h = inr refl
+  count-always k _ n h = absurd n
 
   one-image : HasNoSum download tree → count_images tree ≡ 1
   one-image h = asked h.asks
@@ -71,49 +67,31 @@ module _ (tree : Tree) (size : ℕ) where
       asked (inr e) = absurd cc
 
   none-always : (stop : AbAct) → Unfound stop → HasNoSum download tree → (stop ≡ answer.NoChecksum) ⊎ IsCut stop
-  none-always answer.Done n h = absurd n
-  none-always answer.Usage n h = absurd n
   none-always (answer.BadPayload j) n h = absurd (n.0 (n.1 ∙ one-image h))
   none-always answer.NoChecksum n h = inl refl
   none-always (answer.TooLong j) n h = absurd (some-none (listed tree) n.1.sum n.1.is_listed h.none)
-  none-always (answer.Differs a b) n h = absurd n
-  none-always answer.NotReady n h = absurd n
-  none-always answer.DiskFault n h = absurd n
-  none-always answer.SourceFault n h = inr tt
-  none-always answer.SinkFault n h = absurd n
-  none-always answer.Off n h = absurd n
-  none-always answer.NoMemory n h = inr tt
+  none-always answer.SourceFault n h = inr refl
+  none-always answer.NoMemory n h = inr refl
+  none-always _ n h = absurd n
 
   long-always : (k : ℕ) (stop : AbAct) → Unfound stop → IsTooLong download tree size k → (stop ≡ answer.TooLong k) ⊎ IsCut stop
-  long-always k answer.Done n h = absurd n
-  long-always k answer.Usage n h = absurd n
   long-always k (answer.BadPayload j) n h = absurd (n.0 (n.1 ∙ h.finds.finds.one))
   long-always k answer.NoChecksum n h = absurd (some-none (listed tree) h.sum h.finds.is_listed n.1)
   long-always k (answer.TooLong j) n h =
       inl (ap (λ (i : ℕ). answer.TooLong i) (n.1.is_count ∙ ap length (same-some (image_of tree) n.1.image h.image n.1.is_image h.finds.is_image) ∙ sym h.is_count))
-  long-always k (answer.Differs a b) n h = absurd n
-  long-always k answer.NotReady n h = absurd n
-  long-always k answer.DiskFault n h = absurd n
-  long-always k answer.SourceFault n h = inr tt
-  long-always k answer.SinkFault n h = absurd n
-  long-always k answer.Off n h = absurd n
-  long-always k answer.NoMemory n h = inr tt
+  long-always k answer.SourceFault n h = inr refl
+  long-always k answer.NoMemory n h = inr refl
+  long-always k _ n h = absurd n
 
   other-always : (sum found : List ℕ) (stop : AbAct) → Unfound stop → HasOtherSum download tree size sum found → (stop ≡ answer.Differs sum found) ⊎ IsCut stop
-  other-always sum found answer.Done n h = absurd n
-  other-always sum found answer.Usage n h = absurd n
   other-always sum found (answer.BadPayload j) n h = absurd (n.0 (n.1 ∙ h.finds.finds.one))
   other-always sum found answer.NoChecksum n h = absurd (some-none (listed tree) sum h.finds.is_listed n.1)
   other-always sum found (answer.TooLong j) n h =
       let same : n.1.image ≡ h.image = same-some (image_of tree) n.1.image h.image n.1.is_image h.finds.is_image in
       absurd (omega (arith, n.0, n.1.is_count, ap length same, h.fits))
-  other-always sum found (answer.Differs a b) n h = absurd n
-  other-always sum found answer.NotReady n h = absurd n
-  other-always sum found answer.DiskFault n h = absurd n
-  other-always sum found answer.SourceFault n h = inr tt
-  other-always sum found answer.SinkFault n h = absurd n
-  other-always sum found answer.Off n h = absurd n
-  other-always sum found answer.NoMemory n h = inr tt
+  other-always sum found answer.SourceFault n h = inr refl
+  other-always sum found answer.NoMemory n h = inr refl
+  other-always sum found _ n h = absurd n
 
   module _ (stop : AbAct) (n : Unfound stop) where
     bad-payload : (k : ℕ) → Comes (answer.BadPayload k) (HasCount download tree k) stop
@@ -150,7 +128,8 @@ module _ (tree : Tree) (size : ℕ) where
 
 answered-unfound : (content : Content) (old : Medium) (stop : AbAct) → NoImage content (partition_size old.size) stop → Answered download content old stop
 answered-unfound content old stop n = record {
-  is_for = for-unfound content (partition_size old.size) old.size stop refl n;
+  is_for = (row-unfound content (partition_size old.size) stop n).0;
+  proper = proper-unfound content (partition_size old.size) old.size stop refl n;
   usage = (λ e. absurd (subst (λ (a : AbAct). NoImage content (partition_size old.size) a) e n), λ e. absurd cc);
   bad_payload = payload content n;
   no_checksum = checksum content n;
@@ -177,62 +156,11 @@ answered-unfound content old stop n = record {
 
 -- ---- what is left
 
--- the blocks stay on
-on-ends : (content : Content) (most : ℕ) (m : Medium) (stop : AbAct) → NoImage content most stop → m.on ≡ true → EndsAs (how_of stop) m m
-on-ends content most m answer.Done n on = absurd n
-on-ends content most m answer.Usage n on = absurd n
-on-ends content most m (answer.BadPayload k) n on = record { size = refl; on = on; losses = refl; faults = refl }
-on-ends content most m answer.NoChecksum n on = record { size = refl; on = on; losses = refl; faults = refl }
-on-ends content most m (answer.TooLong k) n on = record { size = refl; on = on; losses = refl; faults = refl }
-on-ends content most m (answer.Differs a b) n on = absurd n
-on-ends content most m answer.NotReady n on = absurd n
-on-ends content most m answer.DiskFault n on = absurd n
-on-ends content most m answer.SourceFault n on = record { size = refl; on = on; losses = refl; faults = refl }
-on-ends content most m answer.SinkFault n on = absurd n
-on-ends content most m answer.Off n on = absurd n
-on-ends content most m answer.NoMemory n on = record { size = refl; on = on; losses = refl; faults = refl }
-
--- the answer that a fault has, and the others
-pub else-after : (old : ℕ) (stop : AbAct) → stop ≢ answer.SourceFault → faults_after old stop ≡ old
-else-after old answer.Done ne = refl
-else-after old answer.Usage ne = refl
-else-after old (answer.BadPayload k) ne = refl
-else-after old answer.NoChecksum ne = refl
-else-after old (answer.TooLong k) ne = refl
-else-after old (answer.Differs a b) ne = refl
-else-after old answer.NotReady ne = refl
-else-after old answer.DiskFault ne = refl
-else-after old answer.SourceFault ne = absurd (ne refl)
-else-after old answer.SinkFault ne = refl
-else-after old answer.Off ne = refl
-else-after old answer.NoMemory ne = refl
-
-pub unfound-acts : (content : Content) (before behind : ℕ) (blocks : Medium) (sink : Written) (stop : AbAct) → blocks.on ≡ true → NoImage content (partition_size blocks.size) stop → behind ≡ faults_after before stop
+pub unfound-acts : (content : Content) (before behind : ℕ) (blocks : Medium) (sink : Written) (stop : AbAct) → blocks.on ≡ true → NoImage content (partition_size blocks.size) stop → behind ≡ source_after stop before
     → ActsFor download content (record { source_faults = before; blocks = blocks; sink = sink }) (record { source_faults = behind; blocks = blocks; sink = sink }) stop
 unfound-acts content before behind blocks sink stop on n counts =
     let not : (a : AbAct) → stop ≡ a → NoImage content (partition_size blocks.size) a = λ a e. subst (λ (a : AbAct). NoImage content (partition_size blocks.size) a) e n in
-    record {
-      answered = answered-unfound content blocks stop n;
-      ends = on-ends content (partition_size blocks.size) blocks stop n on;
-      source_ends = record {
-        failed = λ e. counts ∙ ap (λ (a : AbAct). faults_after before a) e;
-        else = λ ne. counts ∙ else-after before stop ne;
-      };
-      says = (λ e. absurd (not answer.SinkFault e), refl);
-      early = λ e. record { area = refl; keeps = same blocks.disk blocks.disk refl };
-      sane = λ s. s;
-      boots = λ area held. record { before = area; held = held; same = λ image w. w };
-      idle = λ i. absurd i;
-      nothing_to_do = if-all blocks.disk _ (λ d nothing. absurd nothing);
-      named = λ e. names-both blocks.disk;
-      keeps_choice = λ h. where-refl (KeepsChoice stop) (λ d. inl refl) blocks.disk;
-      choice_alone = λ m. absurd (neither _ _ (λ e. absurd cc) (λ e. absurd cc) m);
-      origin_alone = λ e. absurd cc;
-      download_alone = λ e. if-all blocks.disk _ (λ d. within-still (IsSpared blocks.size d.area) blocks);
-      commits = λ e. absurd cc;
-      commit_cut = λ e. absurd cc;
-      download_done = λ w e. absurd (not answer.Done e);
-      cleanup_done = λ e. absurd cc;
-      commit_done = λ e. absurd cc;
-      rollback_done = λ e. absurd cc;
-    }
+    still-acts download content before behind blocks sink sink stop (answered-unfound content blocks stop n)
+    (record { ends = ends-still (how_of stop) blocks (row-unfound content (partition_size blocks.size) stop n).1 on; source = counts })
+    (λ e. absurd (not answer.SinkFault e), refl)
+    (λ e. absurd (not answer.Done e))

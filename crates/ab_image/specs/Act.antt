@@ -1,25 +1,22 @@
 -- What a call of the module answers, and what it leaves.
-use Rattle.std.specs.Prelude.{◌≡◌, ◌≢◌, ◌⊎◌, ◌↔◌, ℕ, ◌<◌, ◌≤◌, List, length, slice_index_or, Option, Some, None, IfSome, String, Result, Ok, Err, ⊤}
+use Rattle.std.specs.Prelude.{◌≡◌, ◌≢◌, ◌⊎◌, ◌↔◌, ℕ, ◌<◌, ◌≤◌, true, false, List, length, slice_index_or, Option, Some, None, IfSome, String, ⊤}
 use Rattle.std.specs.Global.{Global}
 use Rattle.sha2.specs.Sha256.{sha256}
-use Rattle.upd_text.specs.Counts.{counted}
 use Rattle.io_model.specs.Source.{Tree, Content, When}
 use Rattle.io_model.specs.Sink.{Written, Writes, WritesFront}
-use Rattle.device_model.specs.declared.calls.Down.{Down}
-use Rattle.device_model.specs.declared.calls.Down.TheVariants.{Off, Fault}
-use Rattle.device_model.specs.declared.calls.ModState.{ModState}
 use Rattle.device_model.specs.declared.calls.ModState.TheVariants as state
 use Rattle.device_model.specs.declared.module_word.ModuleWord.{ModuleWord}
 use Rattle.device_model.specs.declared.module_word.ModuleWord.TheVariants.{State, Ask}
 use Rattle.device_model.specs.Disk.{Disk, WhereTold, IsApart, IsSynced, MayHold, KeepsDisk, IsSettled, area_of}
-use Rattle.device_model.specs.How.{How, Through, PowerLost, DiskFailed}
+use Rattle.device_model.specs.How.{Through}
 use Rattle.device_model.specs.Names.{module_called}
 use Rattle.ab_image.specs.declared.report.AbAct.{AbAct}
 use Rattle.ab_image.specs.declared.report.AbAct.TheVariants as answer
 use Rattle.ab_image.specs.Layout.{choice_at, origin_at, partition_size, other, chosen, origin, Agree, StaysOrNames, IsSpared, Whole, IsSane, IsReady}
 use Rattle.ab_image.specs.Blocks.{Medium, EndsAs}
 use Rattle.ab_image.specs.Parts.{Within}
-use Rattle.ab_image.specs.Words.{reply_to}
+use Rattle.ab_image.specs.Words.{Use, WritesWhere, Nowhere, Differing, Agreeing, Anywhere, use_of, reply_to}
+use Rattle.ab_image.specs.Answers.{IsCut, IsProper, row_of, how_of, source_after, may_answer}
 use Rattle.ab_image.specs.Artifact.{count_images, image_of, listed}
 
 -- all that a call changes
@@ -29,21 +26,6 @@ pub record Scene : Type 0 where
   pub sink : Written
 
 -- ---- why a call answers so
-
--- a call of the source, the sink or the disk failed, or there was no memory
-abbrev pub IsCut : AbAct → Type 0
-IsCut answer.Done = ⊥
-IsCut answer.Usage = ⊥
-IsCut (answer.BadPayload n) = ⊥
-IsCut answer.NoChecksum = ⊥
-IsCut (answer.TooLong n) = ⊥
-IsCut (answer.Differs a b) = ⊥
-IsCut answer.NotReady = ⊥
-IsCut answer.DiskFault = ⊤
-IsCut answer.SourceFault = ⊤
-IsCut answer.SinkFault = ⊤
-IsCut answer.Off = ⊤
-IsCut answer.NoMemory = ⊤
 
 -- an answer comes exactly where there is this cause, unless a call was cut before
 pub record Comes (meant : AbAct) (cause : Type 0) (result : AbAct) : Type 0 where
@@ -91,21 +73,6 @@ pub record IsNotReady (word : Option ModuleWord) (tree : Tree) (area : List ℕ)
   pub agree : Agree area
   pub unready : IsReady area (other (chosen area)) sum → ⊥
 
--- which words an answer comes for
-abbrev pub IsFor : Option ModuleWord → ℕ → AbAct → Type 0
-IsFor word size answer.Done = ⊤
-IsFor word size answer.Usage = word ≡ None
-IsFor word size (answer.BadPayload n) = (word ≡ Some (State state.Download)) × (n ≢ 1)
-IsFor word size answer.NoChecksum = (word ≡ Some (State state.Download)) ⊎ (word ≡ Some (State state.ArtifactCommit))
-IsFor word size (answer.TooLong n) = (word ≡ Some (State state.Download)) × (partition_size size < n)
-IsFor word size (answer.Differs sum found) = (word ≡ Some (State state.Download)) × (sum ≢ found)
-IsFor word size answer.NotReady = word ≡ Some (State state.ArtifactCommit)
-IsFor word size answer.DiskFault = ⊤
-IsFor word size answer.SourceFault = ⊤
-IsFor word size answer.SinkFault = ⊤
-IsFor word size answer.Off = ⊤
-IsFor word size answer.NoMemory = (word ≡ Some (State state.Download)) ⊎ (word ≡ Some (State state.ArtifactCommit))
-
 -- ---- what a call leaves
 
 -- nothing was written: the area reads as before, and the disk may hold nothing new
@@ -117,51 +84,6 @@ pub record WritesNothing (old new : Medium) : Type 0 where
 pub record Rests (result : AbAct) (old new : Medium) : Type 0 where
   pub area : result ≢ answer.Off → area_of new.disk ≡ area_of old.disk
   pub keeps : KeepsDisk old.disk new.disk
-
--- these answers come before any write
-abbrev pub IsEarly : AbAct → Type 0
-IsEarly answer.Done = ⊥
-IsEarly answer.Usage = ⊤
-IsEarly (answer.BadPayload n) = ⊤
-IsEarly answer.NoChecksum = ⊤
-IsEarly (answer.TooLong n) = ⊤
-IsEarly (answer.Differs a b) = ⊥
-IsEarly answer.NotReady = ⊤
-IsEarly answer.DiskFault = ⊥
-IsEarly answer.SourceFault = ⊥
-IsEarly answer.SinkFault = ⊥
-IsEarly answer.Off = ⊥
-IsEarly answer.NoMemory = ⊤
-
-abbrev pub how_of : AbAct → How
-how_of answer.Done = Through
-how_of answer.Usage = Through
-how_of (answer.BadPayload n) = Through
-how_of answer.NoChecksum = Through
-how_of (answer.TooLong n) = Through
-how_of (answer.Differs sum found) = Through
-how_of answer.NotReady = Through
-how_of answer.DiskFault = DiskFailed
-how_of answer.SourceFault = Through
-how_of answer.SinkFault = Through
-how_of answer.Off = PowerLost
-how_of answer.NoMemory = Through
-
--- the answer where a call of the disk failed
-abbrev pub stopped_by : Down → AbAct
-stopped_by Off = answer.Off
-stopped_by Fault = answer.DiskFault
-
--- the answer of a state that reads no artifact
-abbrev pub answer_of : Result (Unit {0}) Down → AbAct
-answer_of (Ok x) = answer.Done
-answer_of (Err Off) = answer.Off
-answer_of (Err Fault) = answer.DiskFault
-
--- the count of the source rose exactly at its answer
-pub record SourceEnds (old new : ℕ) (result : AbAct) : Type 0 where
-  pub failed : result ≡ answer.SourceFault → new ≡ counted old
-  pub else : result ≢ answer.SourceFault → new ≡ old
 
 -- the choice byte stays, unless power was lost while it was unsynced from an earlier call
 abbrev pub KeepsChoice : AbAct → Disk → Disk → Type 0
@@ -205,57 +127,25 @@ Says (Some (Ask query)) result old new = ⊥
 Says (Some (State s)) result old new = (result ≢ answer.SinkFault) × (new ≡ old)
 Says None result old new = (result ≢ answer.SinkFault) × (new ≡ old)
 
--- the words do nothing to the disk
-abbrev pub IsIdle : Option ModuleWord → Type 0
-IsIdle None = ⊤
-IsIdle (Some (Ask query)) = ⊤
-IsIdle (Some (State state.Download)) = ⊥
-IsIdle (Some (State state.ArtifactInstall)) = ⊤
-IsIdle (Some (State state.ArtifactReboot)) = ⊤
-IsIdle (Some (State state.ArtifactVerifyReboot)) = ⊤
-IsIdle (Some (State state.ArtifactCommit)) = ⊥
-IsIdle (Some (State state.ArtifactRollback)) = ⊥
-IsIdle (Some (State state.ArtifactRollbackReboot)) = ⊤
-IsIdle (Some (State state.ArtifactVerifyRollbackReboot)) = ⊤
-IsIdle (Some (State state.ArtifactFailure)) = ⊤
-IsIdle (Some (State state.Cleanup)) = ⊥
+-- nothing is to be written on a disk with this area
+abbrev pub HasNothingToDo : WritesWhere → List ℕ → Type 0
+HasNothingToDo Nowhere area = ⊤
+HasNothingToDo Differing area = Agree area
+HasNothingToDo Agreeing area = Agree area → ⊥
+HasNothingToDo Anywhere area = ⊥
 
--- the words have nothing to do on a disk with this area
-abbrev pub HasNothingToDo : Option ModuleWord → List ℕ → Type 0
-HasNothingToDo (Some (State state.ArtifactCommit)) area = Agree area → ⊥
-HasNothingToDo (Some (State state.ArtifactRollback)) area = Agree area
-HasNothingToDo (Some (State state.Cleanup)) area = Agree area
-HasNothingToDo word area = IsIdle word
-
--- the words that read no artifact
-abbrev pub IsAlone : Option ModuleWord → Type 0
-IsAlone None = ⊤
-IsAlone (Some (Ask query)) = ⊤
-IsAlone (Some (State state.Download)) = ⊥
-IsAlone (Some (State state.ArtifactInstall)) = ⊤
-IsAlone (Some (State state.ArtifactReboot)) = ⊤
-IsAlone (Some (State state.ArtifactVerifyReboot)) = ⊤
-IsAlone (Some (State state.ArtifactCommit)) = ⊥
-IsAlone (Some (State state.ArtifactRollback)) = ⊤
-IsAlone (Some (State state.ArtifactRollbackReboot)) = ⊤
-IsAlone (Some (State state.ArtifactVerifyRollbackReboot)) = ⊤
-IsAlone (Some (State state.ArtifactFailure)) = ⊤
-IsAlone (Some (State state.Cleanup)) = ⊤
-
--- the words that may write the choice
-abbrev pub MayChoose : Option ModuleWord → Type 0
-MayChoose word = (word ≡ Some (State state.ArtifactCommit)) ⊎ (word ≡ Some (State state.ArtifactRollback))
-
--- after a state is Done: nothing is unsynced, and this holds of the area before and the one after
-abbrev pub Leaves : Option ModuleWord → ModState → AbAct → Medium → Medium → (List ℕ → List ℕ → Type 0) → Type 0
-Leaves word state result old new R = word ≡ Some (State state) → result ≡ answer.Done → IsSettled new.disk × WhereTold (λ d e. R d.area e.area) old.disk new.disk
+-- where it is done, nothing is unsynced, and this holds of the area before and the one after
+abbrev pub Leaves : AbAct → Medium → Medium → (List ℕ → List ℕ → Type 0) → Type 0
+Leaves result old new R = result ≡ answer.Done → IsSettled new.disk × WhereTold (λ d e. R d.area e.area) old.disk new.disk
 
 -- ---- the contract
 
 -- Answers by their causes, in the order of their numbers.
 pub record Answered (word : Option ModuleWord) (content : Content) (old : Medium) (result : AbAct) : Type 0 where
   -- each answer comes for its words alone
-  pub is_for : IsFor word old.size result
+  pub is_for : may_answer word result ≡ true
+  -- what it tells is a fault
+  pub proper : IsProper old.size result
   -- the words aren't a word and a folder
   pub usage : (result ≡ answer.Usage) ↔ (word ≡ None)
   -- so many files are images
@@ -269,41 +159,62 @@ pub record Answered (word : Option ModuleWord) (content : Content) (old : Medium
   -- the other partition doesn't hold what is listed
   pub not_ready : When content (λ tree. IfSome old.disk (λ d. Comes answer.NotReady (IsNotReady word tree d.area) result))
 
+-- `DiskFault`, `Off` and `SourceFault` come exactly where the count rose.
+pub record Counted (old new : Scene) (result : AbAct) : Type 0 where
+  pub ends : EndsAs (how_of result) old.blocks new.blocks
+  pub source : new.source_faults ≡ source_after result old.source_faults
+
+-- what stands after each call
+pub record Stands (old new : Medium) (result : AbAct) : Type 0 where
+  -- the device boots a whole image after each return, whatever is lost
+  pub sane : IsSane old.disk → IsSane new.disk
+  -- the old one, until another choice is written
+  pub boots : (area : List ℕ) → MayHold new.disk area → BootsAs old.disk area
+  -- where no call of the disk failed, the choice byte and the origin byte are as before, or those for the partitions that they name
+  pub named : how_of result ≡ Through → WhereTold (λ d e. StaysOrNames choice_at d.area e.area × StaysOrNames origin_at d.area e.area) old.disk new.disk
+
+-- when a call writes, and whether it may write the choice
+pub record Writing (does : Use) (old new : Medium) (result : AbAct) : Type 0 where
+  -- nothing is written before these answers
+  pub early : (row_of result).early ≡ true → WritesNothing old new
+  -- a query and a state that does nothing leave all
+  pub idle : does.writes ≡ Nowhere → new ≡ old
+  -- the others write nothing where the parities leave them nothing to do
+  pub nothing_to_do : IfSome old.disk (λ d. HasNothingToDo does.writes d.area → Rests result old new)
+  -- only two words write the choice
+  pub keeps_choice : does.chooses ≡ false → WhereTold (KeepsChoice result) old.disk new.disk
+  -- and they write no other byte
+  pub choice_alone : does.chooses ≡ true → Within (IsApart choice_at 1) old new
+
+pub record Downloads (content : Content) (old new : Medium) (result : AbAct) : Type 0 where
+  -- it writes no byte but those of the partition that isn't chosen, of its record, and the origin where the parities differ
+  pub download_alone : IfSome old.disk (λ d. Within (IsSpared old.size d.area) old new)
+  pub download_done : Leaves result old new (λ before after. Agree after × When content (λ tree. HoldsImage tree after))
+
+pub record Commits (content : Content) (old new : Medium) (result : AbAct) : Type 0 where
+  -- it writes the choice only where the parities agree, and after the other partition was found to have the listed sum
+  pub commits : WhereTold (λ d e. KeepsChoice result d e ⊎ FoundReady content d.area) old.disk new.disk
+  -- after a loss or a fault in it either choice may stand
+  pub commit_cut : IsSane old.disk → IfSome old.disk (λ d. (area : List ℕ) → MayHold new.disk area → IsEither content d area)
+  pub commit_done : Leaves result old new (λ before after. Agree before → chosen after ≡ other (chosen before))
+
+pub record CleansUp (old new : Medium) (result : AbAct) : Type 0 where
+  -- it writes no byte but the origin
+  pub origin_alone : Within (IsApart origin_at 1) old new
+  pub cleanup_done : Leaves result old new (λ before after. Agree after)
+
 -- What a call for this word answers and leaves.
 pub record ActsFor (word : Option ModuleWord) (content : Content) (old new : Scene) (result : AbAct) : Type 0 where
   pub answered : Answered word content old.blocks result
-  -- `DiskFault`, `Off` and `SourceFault` come exactly where the count rose
-  pub ends : EndsAs (how_of result) old.blocks new.blocks
-  pub source_ends : SourceEnds old.source_faults new.source_faults result
+  pub counted : Counted old new result
   -- `Yes` or `No` is written to the sink, and nothing after other words; `SinkFault` comes only where its count rose
   pub says : Says word result old.sink new.sink
-  -- nothing is written before these answers
-  pub early : IsEarly result → WritesNothing old.blocks new.blocks
-  -- the device boots a whole image after each return, whatever is lost
-  pub sane : IsSane old.blocks.disk → IsSane new.blocks.disk
-  -- the old one, until another choice is written
-  pub boots : (area : List ℕ) → MayHold new.blocks.disk area → BootsAs old.blocks.disk area
-  -- a query and a state that does nothing leave all
-  pub idle : IsIdle word → new.blocks ≡ old.blocks
-  -- the others write nothing where the parities leave them nothing to do
-  pub nothing_to_do : IfSome old.blocks.disk (λ d. HasNothingToDo word d.area → Rests result old.blocks new.blocks)
-  -- where no call of the disk failed, the choice byte and the origin byte are as before, or those for the partitions that they name
-  pub named : how_of result ≡ Through → WhereTold (λ d e. StaysOrNames choice_at d.area e.area × StaysOrNames origin_at d.area e.area) old.blocks.disk new.blocks.disk
-  -- only two words write the choice
-  pub keeps_choice : (MayChoose word → ⊥) → WhereTold (KeepsChoice result) old.blocks.disk new.blocks.disk
-  -- these two write no other byte, and Cleanup none but the origin
-  pub choice_alone : MayChoose word → Within (IsApart choice_at 1) old.blocks new.blocks
-  pub origin_alone : word ≡ Some (State state.Cleanup) → Within (IsApart origin_at 1) old.blocks new.blocks
-  -- Download writes no byte but those of the partition that isn't chosen, of its record, and the origin where the parities differ
-  pub download_alone : word ≡ Some (State state.Download) → IfSome old.blocks.disk (λ d. Within (IsSpared old.blocks.size d.area) old.blocks new.blocks)
-  -- ArtifactCommit writes the choice only where the parities agree, and after the other partition was found to have the listed sum
-  pub commits : word ≡ Some (State state.ArtifactCommit) → WhereTold (λ d e. KeepsChoice result d e ⊎ FoundReady content d.area) old.blocks.disk new.blocks.disk
-  -- after a loss or a fault in it either choice may stand
-  pub commit_cut : word ≡ Some (State state.ArtifactCommit) → IsSane old.blocks.disk → IfSome old.blocks.disk (λ d. (area : List ℕ) → MayHold new.blocks.disk area → IsEither content d area)
-  pub download_done : Leaves word state.Download result old.blocks new.blocks (λ before after. Agree after × When content (λ tree. HoldsImage tree after))
-  pub cleanup_done : Leaves word state.Cleanup result old.blocks new.blocks (λ before after. Agree after)
-  pub commit_done : Leaves word state.ArtifactCommit result old.blocks new.blocks (λ before after. Agree before → chosen after ≡ other (chosen before))
-  pub rollback_done : Leaves word state.ArtifactRollback result old.blocks new.blocks (λ before after. chosen after ≡ origin before)
+  pub stands : Stands old.blocks new.blocks result
+  pub writing : Writing (use_of word) old.blocks new.blocks result
+  pub downloads : word ≡ Some (State state.Download) → Downloads content old.blocks new.blocks result
+  pub commits : word ≡ Some (State state.ArtifactCommit) → Commits content old.blocks new.blocks result
+  pub rollback_done : word ≡ Some (State state.ArtifactRollback) → Leaves result old.blocks new.blocks (λ before after. chosen after ≡ origin before)
+  pub cleans_up : word ≡ Some (State state.Cleanup) → CleansUp old.blocks new.blocks result
 
 -- What a call with these words answers and leaves.
 abbrev pub Acts : List (String Global) → Content → Scene → Scene → AbAct → Type 0

@@ -9,7 +9,8 @@ use Rattle.ab_image.specs.declared.report.AbAct.TheVariants as answer
 use Rattle.ab_image.specs.Layout.{choice_at, other, chosen, Agree, StaysOrNames, Whole, IsSane, IsReady}
 use Rattle.ab_image.specs.Blocks.{Medium, EndsAs}
 use Rattle.ab_image.specs.Parts.{Within, KeepsByte, Calm}
-use Rattle.ab_image.specs.Act.{WritesNothing, stopped_by}
+use Rattle.ab_image.specs.Answers.{stopped_by}
+use Rattle.ab_image.specs.Act.{WritesNothing}
 
 -- the partition that isn't chosen holds what its record says, with this sum
 abbrev pub IsOtherReady : List ℕ → List ℕ → Type 0

@@ -1,7 +1,6 @@
 -- What a search of an artifact finds, and why it finds nothing.
 use Rattle.std.specs.Prelude.{◌≡◌, ◌≢◌, ℕ, ◌+◌, ◌<◌, ◌==◌, ◌&&◌, if◌then◌else◌, List, length, find, Option, Some, None, IfSome, option_map, option_and_then, Result, Ok, Err, ⊤}
 use Rattle.std.specs.Option.{option_or}
-use Rattle.upd_text.specs.Counts.{counted}
 use Rattle.io_model.specs.Source.{File, Tree, Content, When, bytes_at}
 use Rattle.artifact_meta.specs.declared.fault.MetaFault.{MetaFault}
 use Rattle.artifact_meta.specs.declared.fault.MetaFault.TheVariants as meta
@@ -10,6 +9,7 @@ use Rattle.ab_image.specs.declared.artifact.TheConstants.{MOST}
 use Rattle.ab_image.specs.declared.image.Image.{Image}
 use Rattle.ab_image.specs.declared.report.AbAct.{AbAct}
 use Rattle.ab_image.specs.declared.report.AbAct.TheVariants as answer
+use Rattle.ab_image.specs.Answers.{source_after}
 use Rattle.ab_image.specs.Artifact.{is_image_path, count_images, image_of, is_type_info_path, is_type_info, listed_in, listed}
 
 -- ---- the paths
@@ -58,15 +58,10 @@ pub record HasLength (tree : Tree) (count : ℕ) : Type 0 where
 
 -- ---- why nothing is found
 
--- the count of the source's faults after an answer
-abbrev pub faults_after : ℕ → AbAct → ℕ
-faults_after old answer.SourceFault = counted old
-faults_after old _ = old
-
 -- only the answer `SourceFault` raises the count
 abbrev pub Stops : {T : Type 0} → ℕ → Result T AbAct → ℕ → Type 0
 Stops old (Ok x) new = new ≡ old
-Stops old (Err stop) new = new ≡ faults_after old stop
+Stops old (Err stop) new = new ≡ source_after stop old
 
 -- the file isn't read as a type-info: it has more than 65,536 bytes; a fault and want of memory are free
 abbrev pub NoText : Content → ℕ → AbAct → Type 0

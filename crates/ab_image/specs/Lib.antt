@@ -3,8 +3,8 @@ pub mod Blocks
 pub mod Words
 pub mod Artifact
 pub mod Finding
+pub mod Answers
 pub mod Act
-pub mod Numbers
 pub mod Parts
 pub mod Choosing
 pub mod MemBlocks

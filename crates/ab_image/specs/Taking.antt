@@ -11,7 +11,8 @@ use Rattle.ab_image.specs.declared.report.AbAct.TheVariants as answer
 use Rattle.ab_image.specs.Layout.{choice_at, origin_at, other, chosen, Agree, StaysOrNames, IsSpared, IsSane}
 use Rattle.ab_image.specs.Blocks.{Medium, EndsAs}
 use Rattle.ab_image.specs.Parts.{Touches, BothTold, KeepsByte, Within, Calm}
-use Rattle.ab_image.specs.Act.{BootsAs, how_of}
+use Rattle.ab_image.specs.Answers.{how_of}
+use Rattle.ab_image.specs.Act.{BootsAs}
 
 -- the answer where a part went through or stopped the call
 abbrev pub ended : {T : Type 0} → Result T AbAct → AbAct
@@ -20,18 +21,10 @@ ended (Err stop) = stop
 
 -- what may stop a copy
 abbrev pub StopsCopy : AbAct → Type 0
-StopsCopy answer.Done = ⊥
-StopsCopy answer.Usage = ⊥
-StopsCopy (answer.BadPayload n) = ⊥
-StopsCopy answer.NoChecksum = ⊥
-StopsCopy (answer.TooLong n) = ⊥
-StopsCopy (answer.Differs a b) = ⊥
-StopsCopy answer.NotReady = ⊥
 StopsCopy answer.DiskFault = ⊤
 StopsCopy answer.SourceFault = ⊤
-StopsCopy answer.SinkFault = ⊥
 StopsCopy answer.Off = ⊤
-StopsCopy answer.NoMemory = ⊥
+StopsCopy _ = ⊥
 
 -- only bytes that aren't kept may have been written
 pub record Spares (kept : ℕ → Type 0) (result : AbAct) (old new : Medium) : Type 0 where
@@ -63,17 +56,11 @@ pub record Frees (old : Medium) (result : Result Partition Down) (new : Medium) 
 -- the answer of a copy, by the sum that is listed for a file and the one that the file has
 abbrev pub Judges : Content → (file : ℕ) → (listed : List ℕ) → AbAct → Type 0
 Judges content file listed answer.Done = When content (λ t. listed ≡ sha256 (bytes_at t file))
-Judges content file listed answer.Usage = ⊥
-Judges content file listed (answer.BadPayload n) = ⊥
-Judges content file listed answer.NoChecksum = ⊥
-Judges content file listed (answer.TooLong n) = ⊥
 Judges content file listed (answer.Differs sum found) = (sum ≡ listed) × (sum ≢ found) × When content (λ t. found ≡ sha256 (bytes_at t file))
-Judges content file listed answer.NotReady = ⊥
 Judges content file listed answer.DiskFault = ⊤
 Judges content file listed answer.SourceFault = ⊤
-Judges content file listed answer.SinkFault = ⊥
 Judges content file listed answer.Off = ⊤
-Judges content file listed answer.NoMemory = ⊥
+Judges content file listed _ = ⊥
 
 -- what may stand is sane as before and boots the image that was booted before, and what Download spares stays
 pub record Stores (result : AbAct) (old new : Medium) : Type 0 where

@@ -1,14 +1,16 @@
 //! One call of the module.
 
-ghost use Rattle.std.specs.Prelude.{◌≡◌, ◌<◌, ℕ, true, length, Some};
+ghost use Rattle.std.specs.Prelude.{◌≡◌, ◌<◌, ℕ, true, false, length, Some};
 ghost use Rattle.io_model.specs.Source.{Content};
-ghost use Rattle.ab_image.specs.Act.{Acts, ActsFor, IsAlone, answer_of};
+ghost use Rattle.ab_image.specs.Words.{use_of};
+ghost use Rattle.ab_image.specs.Answers.{answer_of};
+ghost use Rattle.ab_image.specs.Act.{Acts, ActsFor};
 
 use crate::blocks::Blocks;
 use crate::committing::commit;
 use crate::downloading::download;
 use crate::replying::reply;
-use crate::report::AbAct;
+use crate::report::{AbAct, stopped};
 use crate::settling::{clean_up, roll_back};
 use device_model::{Down, ModState, ModuleWord};
 use io_model::{Sink, Source};
@@ -60,7 +62,7 @@ fn act_for<S: Source, B: Blocks, O: Sink>(
 /// What a word does that reads no artifact.
 fn act_alone<B: Blocks, O: Sink>(word: ModuleWord, blocks: &mut B, out: &mut O) -> AbAct
     requires on { (B.means blocks.old).on ≡ true }
-    requires alone { IsAlone (Some word) }
+    requires alone { (use_of (Some word)).reads ≡ false }
     ensures acts { (content : Content) (faults : ℕ) → ActsFor (Some word) content (record { source_faults = faults; blocks = B.means blocks.old; sink = O.means out.old }) (record { source_faults = faults; blocks = B.means blocks.new; sink = O.means out.new }) result }
 {
     match word {
@@ -80,7 +82,6 @@ fn ended(end: Result<(), Down>) -> AbAct
 {
     match end {
         Ok(()) => AbAct::Done,
-        Err(Down::Off) => AbAct::Off,
-        Err(Down::Fault) => AbAct::DiskFault,
+        Err(down) => stopped(down),
     }
 }

@@ -8,7 +8,7 @@ ghost use Rattle.manifest_sums.specs.Message.{Has};
 ghost use Rattle.device_model.specs.Disk.{WhereTold, IsApart, overwritten};
 ghost use Rattle.ab_image.specs.Layout.{partition_size, partition_at, record_at};
 ghost use Rattle.ab_image.specs.Parts.{Sets};
-ghost use Rattle.ab_image.specs.Act.{SourceEnds};
+ghost use Rattle.ab_image.specs.Answers.{source_after};
 ghost use Rattle.ab_image.specs.Taking.{ended, StopsCopy, Spares, HasFront};
 
 use crate::blocks::Blocks;
@@ -45,7 +45,7 @@ fn copy_piece<S: Source, B: Blocks>(
     requires range { rest.to + rest.left ≤ (B.means blocks.old).size }
     ensures same { S.content source.new ≡ S.content source.old }
     ensures plan { S.plan source.new ≡ S.plan source.old }
-    ensures source { SourceEnds (S.faults source.old) (S.faults source.new) (ended result) }
+    ensures source { S.faults source.new ≡ source_after (ended result) (S.faults source.old) }
     ensures spares { Spares (IsApart rest.to rest.left) (ended result) (B.means blocks.old) (B.means blocks.new) }
     ensures stops { IfErr result StopsCopy }
     ensures some { IfOk result (λ n. 0 < n) }
@@ -81,7 +81,7 @@ pub(crate) fn copy_image<S: Source, B: Blocks>(
     requires fits { size ≤ partition_size (B.means blocks.old).size }
     ensures same { S.content source.new ≡ S.content source.old }
     ensures plan { S.plan source.new ≡ S.plan source.old }
-    ensures source { SourceEnds (S.faults source.old) (S.faults source.new) (ended result) }
+    ensures source { S.faults source.new ≡ source_after (ended result) (S.faults source.old) }
     ensures spares { Spares (IsApart (partition_at (B.means blocks.old).size partition) size) (ended result) (B.means blocks.old) (B.means blocks.new) }
     ensures stops { IfErr result StopsCopy }
     ensures sum { IfOk result (λ sum. When (S.content source.old) (λ t. sum ≡ sha256 (bytes_at t image))) }

@@ -7,7 +7,8 @@ ghost use Rattle.device_model.specs.Disk.{IsSettled};
 ghost use Rattle.io_model.specs.Sink.{Written};
 ghost use Rattle.io_model.specs.Source.{count_of, When, IsLength, bytes_at};
 ghost use Rattle.ab_image.specs.Layout.{partition_size, other, chosen, Agree, IsBeside, Whole};
-ghost use Rattle.ab_image.specs.Act.{ActsFor, SourceEnds};
+ghost use Rattle.ab_image.specs.Answers.{source_after};
+ghost use Rattle.ab_image.specs.Act.{ActsFor};
 ghost use Rattle.ab_image.specs.Taking.{Frees, Judges, Spares, Stores};
 
 use crate::blocks::Blocks;
@@ -51,7 +52,7 @@ fn put_image<S: Source, B: Blocks>(
     requires fits { image.now.size ≤ partition_size (B.means blocks.old).size }
     ensures same { S.content source.new ≡ S.content source.old }
     ensures plan { S.plan source.new ≡ S.plan source.old }
-    ensures source { SourceEnds (S.faults source.old) (S.faults source.new) result }
+    ensures source { S.faults source.new ≡ source_after result (S.faults source.old) }
     ensures judges { Judges (S.content source.old) image.now.file image.now.listed result }
     ensures spares { Spares (IsBeside (B.means blocks.old).size target) result (B.means blocks.old) (B.means blocks.new) }
     ensures settled { result ≡ AbAct.Done → IsSettled (B.means blocks.new).disk }
@@ -84,7 +85,7 @@ fn store<S: Source, B: Blocks>(
     requires fits { image.now.size ≤ partition_size (B.means blocks.old).size }
     ensures same { S.content source.new ≡ S.content source.old }
     ensures plan { S.plan source.new ≡ S.plan source.old }
-    ensures source { SourceEnds (S.faults source.old) (S.faults source.new) result }
+    ensures source { S.faults source.new ≡ source_after result (S.faults source.old) }
     ensures judges { Judges (S.content source.old) image.now.file image.now.listed result }
     ensures stores { Stores result (B.means blocks.old) (B.means blocks.new) }
     ensures settled { result ≡ AbAct.Done → IsSettled (B.means blocks.new).disk }

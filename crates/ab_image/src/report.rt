@@ -1,8 +1,7 @@
 //! What a call of the module answers.
 
 ghost use Rattle.std.specs.Prelude.{◌≡◌};
-ghost use Rattle.ab_image.specs.Act.{stopped_by};
-ghost use Rattle.ab_image.specs.Numbers.{act_number};
+ghost use Rattle.ab_image.specs.Answers.{number_of, stopped_by};
 
 use device_model::Down;
 use manifest_sums::Sum;
@@ -34,7 +33,7 @@ pub enum AbAct {
 impl AbAct {
     /// The status of the program.
     pub fn number(&self) -> u8
-        ensures { result ≡ act_number self.now }
+        ensures { result ≡ number_of self.now }
     {
         match self {
             AbAct::Done => 0,

@@ -1,8 +1,9 @@
 use Rattle.std.proofs.Common.{◌≡◌, ◌∙◌, ℕ, Some, None, sym, ap, subst}
 use Rattle.io_model.specs.Source.{Content, When}
 use Rattle.ab_image.specs.declared.report.AbAct.{AbAct}
+use Rattle.ab_image.specs.Answers.{source_after}
 use Rattle.ab_image.specs.Act.{ActsFor}
-use Rattle.ab_image.specs.Finding.{NoSum, listed_at, faults_after}
+use Rattle.ab_image.specs.Finding.{NoSum, listed_at}
 use Rattle.ab_image.proofs.Commits.{committed, lists, faulted-acts, unlisted-acts, chooses-acts}
 use Rattle.ab_image.proofs.committing.commit.Goals as goal
 
@@ -18,7 +19,7 @@ returns-in-Err-listed_sum-clause-acts g c = λ sink.
     let found = c.in-Ok.found in
     let none = subst (λ (t : Content). NoSum t found.type_info stop) c.in-Ok.ensures.same c.in-Err-listed_sum.ensures.none in
     unlisted-acts content faults (g.S.Source.faults c.listed_sum.new.source) (g.B.Blocks.means c.args.blocks.now) sink found.type_info stop c.requires.on
-    (c.in-Err-listed_sum.ensures.stops ∙ ap (λ (n : ℕ). faults_after n stop) c.in-Ok.ensures.counts) none (lists content found None c.in-Ok.ensures.found)
+    (c.in-Err-listed_sum.ensures.stops ∙ ap (λ (n : ℕ). source_after stop n) c.in-Ok.ensures.counts) none (lists content found None c.in-Ok.ensures.found)
 
 pub returns-clause-acts : goal.returns-clause-acts
 returns-clause-acts g c = λ sink.
