@@ -47,9 +47,7 @@ needs_stopped : (files : Content) (s : Stop) → Finds files (Err s) → NeedsOn
 needs_stopped (Untold n) s h = tt
 needs_stopped (Told t) (stop.BadPayload n) h = inr (inl (ap act.BadPayload (sym h.1)))
 needs_stopped (Told t) stop.SourceFault h = inr (inr refl)
-needs_stopped (Told t) stop.DiskFault h = absurd h
-needs_stopped (Told t) stop.Off h = absurd h
-needs_stopped (Told t) stop.BadSaved h = absurd h
+needs_stopped (Told t) _ h = absurd h
 
 seeks_stopped : (files : Content) (s : Stop) (m : Contents) → Finds files (Err s) → Seeks files (stopped_by s) m m
 seeks_stopped files s m h = record { bad_payload = bad s h; needs_one = needs_stopped files s h }
@@ -57,17 +55,13 @@ seeks_stopped files s m h = record { bad_payload = bad s h; needs_one = needs_st
     bad : (s : Stop) → Finds files (Err s) → (n : ℕ) → stopped_by s ≡ act.BadPayload n → CountsPayloads files n m m
     bad (stop.BadPayload k) h n e = let same : k ≡ n = cc in subst (λ (j : ℕ). CountsPayloads files j m m) same (record { not_one = h.0; number = h.1; same = refl })
     bad stop.SourceFault h n e = absurd (cc)
-    bad stop.DiskFault h n e = absurd h
-    bad stop.Off h n e = absurd h
-    bad stop.BadSaved h n e = absurd h
+    bad _ h n e = absurd h
 
 -- a search that stops has called nothing of the place
 unfound : (files : Content) (s : Stop) → Finds files (Err s) → (how_of (stopped_by s) ≡ Through) × (may_answer (State Download) (stopped_by s) ≡ true)
 unfound files (stop.BadPayload k) h = (refl, refl)
 unfound files stop.SourceFault h = (refl, refl)
-unfound files stop.DiskFault h = absurd h
-unfound files stop.Off h = absurd h
-unfound files stop.BadSaved h = absurd h
+unfound files _ h = absurd h
 
 counts_still : (a : FileAct) (m : Contents) → how_of a ≡ Through → m.on ≡ true → Counts a m m
 counts_still a m through on = record {
@@ -90,11 +84,10 @@ seeks_found files i a old new h none = record { bad_payload = λ n e. absurd (no
 
 -- the answers of an installation that has found the payload
 wrote : (s : Stop) → IsOfWriting s → NoNumber (stopped_by s) × (may_answer (State ArtifactInstall) (stopped_by s) ≡ true)
-wrote (stop.BadPayload k) h = absurd (cc)
 wrote stop.SourceFault h = ((λ n e. cc), refl)
 wrote stop.DiskFault h = ((λ n e. cc), refl)
 wrote stop.Off h = ((λ n e. cc), refl)
-wrote stop.BadSaved h = absurd (cc)
+wrote _ h = absurd (cc)
 
 of_writing : (s : Stop) → IsOfPlace s → IsOfWriting s
 of_writing s h = ap (λ (b : Bool). b || (row_of (stopped_by s)).of_source) h
@@ -213,11 +206,9 @@ installs_stopped files i s old mid new h regular cause first sets then r = insta
 
 -- the place alone cut it off
 cut_by : (s : Stop) → IsOfPlace s → (stopped_by s ≡ act.DiskFault) ⊎ (stopped_by s ≡ act.Off)
-cut_by (stop.BadPayload k) h = absurd (cc)
-cut_by stop.SourceFault h = absurd (cc)
 cut_by stop.DiskFault h = inl refl
 cut_by stop.Off h = inr refl
-cut_by stop.BadSaved h = absurd (cc)
+cut_by _ h = absurd (cc)
 
 may_roll : (a : FileAct) → (a ≡ act.DiskFault) ⊎ (a ≡ act.Off) → may_answer (State ArtifactRollback) a ≡ true
 may_roll a (inl e) = subst (λ (b : FileAct). may_answer (State ArtifactRollback) b ≡ true) (sym e) refl

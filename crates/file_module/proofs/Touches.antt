@@ -38,11 +38,8 @@ content_same act Fresh old new other h = absurd (other refl)
 
 -- the place alone cut the call off, so no fault of the source is counted
 pub source_kept : (s : Stop) (n : ℕ) → IsOfPlace s → source_after (stopped_by s) n ≡ n
-source_kept (stop.BadPayload k) n h = refl
-source_kept stop.DiskFault n h = refl
 source_kept stop.SourceFault n h = absurd (cc)
-source_kept stop.Off n h = refl
-source_kept stop.BadSaved n h = refl
+source_kept _ n h = refl
 
 pub sets_saved_then : (act : FileAct) (bytes : Option (List ℕ)) (old mid new : Contents) → TouchesFresh Done old mid → SetsSaved act bytes mid new → SetsSaved act bytes old new
 sets_saved_then act bytes old mid new a b = record {
@@ -54,10 +51,7 @@ sets_saved_then act bytes old mid new a b = record {
 
 pub done_or_not : (s : Stop) → stopped_by s ≡ Done → ⊥
 done_or_not (stop.BadPayload k) e = cc
-done_or_not stop.DiskFault e = cc
-done_or_not stop.SourceFault e = cc
-done_or_not stop.Off e = cc
-done_or_not stop.BadSaved e = cc
+done_or_not _ e = cc
 
 -- a file was copied into an empty content, and settled
 pub holds_file : (files : Content) (i : ℕ) (empty full : Contents) (new : Contents) → empty.fresh ≡ Some [] → CopiesFile files i empty full → new.fresh ≡ full.fresh → HoldsFile files i new
