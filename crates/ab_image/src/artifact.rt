@@ -154,10 +154,7 @@ pub(crate) fn listed_sum<S: Source>(
         Some(i) => i,
         None => return Err(AbAct::NoChecksum),
     };
-    let text = match read_text(alloc, source, i) {
-        Ok(text) => text,
-        Err(stop) => return Err(stop),
-    };
+    let text = read_text(alloc, source, i)?;
     match read_type_info(alloc, text.as_slice()) {
         Ok(info) => sum_listed(&info),
         Err(fault) => Err(unread(fault)),

@@ -25,18 +25,14 @@ fn choose<B: Blocks>(blocks: &mut B, listed: &Sum, buffer: &mut [u8]) -> Result<
     requires room { 0 < length buffer.old }
     ensures chooses { Chooses listed.now (B.means blocks.old) result (B.means blocks.new) }
 {
-    let named = match settle(blocks) {
-        Ok(named) => named,
-        Err(down) => return Err(down),
-    };
+    let named = settle(blocks)?;
     if !named.origin.is(named.choice) {
         return Ok(true);
     }
     let target = named.choice.other();
-    match is_ready(blocks, target, listed, buffer) {
-        Ok(true) => {}
-        Ok(false) => return Ok(false),
-        Err(down) => return Err(down),
+    let ready = is_ready(blocks, target, listed, buffer)?;
+    if !ready {
+        return Ok(false);
     }
     match set(blocks, CHOICE, target) {
         Ok(()) => Ok(true),

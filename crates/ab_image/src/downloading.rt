@@ -27,14 +27,9 @@ fn free_other<B: Blocks>(blocks: &mut B) -> Result<Partition, Down>
     requires on { (B.means blocks.old).on ≡ true }
     ensures frees { Frees (B.means blocks.old) result (B.means blocks.new) }
 {
-    match clean_up(blocks) {
-        Ok(()) => {}
-        Err(down) => return Err(down),
-    }
-    match settle(blocks) {
-        Ok(named) => Ok(named.choice.other()),
-        Err(down) => Err(down),
-    }
+    clean_up(blocks)?;
+    let named = settle(blocks)?;
+    Ok(named.choice.other())
 }
 
 /// Copies the image into a partition, and writes its record where the sum is the listed one.

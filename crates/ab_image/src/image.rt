@@ -40,10 +40,7 @@ pub(crate) fn find_image<S: Source>(
     if found.images != 1 {
         return Err(AbAct::BadPayload(found.images));
     }
-    let listed = match listed_sum(alloc, source, found.type_info) {
-        Ok(listed) => listed,
-        Err(stop) => return Err(stop),
-    };
+    let listed = listed_sum(alloc, source, found.type_info)?;
     match source.length(found.image) {
         Ok(size) => {
             if size > most {

@@ -27,10 +27,7 @@ fn sum_piece<B: Blocks>(
     ensures same { OnOk result (B.means blocks.new ≡ B.means blocks.old) }
     ensures next { OnOk result (IfSome (area_of (B.means blocks.old).disk) (λ area. (message : List ℕ) → Has summing.old message → Has summing.new (message ++ take (length into.old) (drop at area)))) }
 {
-    match blocks.read(at, into) {
-        Ok(()) => {}
-        Err(down) => return Err(down),
-    }
+    blocks.read(at, into)?;
     summing.piece(into);
     Ok(())
 }
@@ -54,10 +51,7 @@ fn sum_front<B: Blocks>(
     let mut at: u64 = 0;
     while at < size {
         let want = least(size - at, buffer.len());
-        match sum_piece(blocks, start + at, &mut summing, &mut buffer[..want]) {
-            Ok(()) => {}
-            Err(down) => return Err(down),
-        }
+        sum_piece(blocks, start + at, &mut summing, &mut buffer[..want])?;
         at += want as u64;
     }
     Ok(summing.finish())
@@ -93,15 +87,10 @@ pub(crate) fn is_ready<B: Blocks>(
     ensures ready { IfOk result (λ yes. IfSome (area_of (B.means blocks.old).disk) (λ area. IsTrue yes ↔ IsReady area partition listed.now)) }
 {
     let mut record = [0u8; RECORD];
-    match blocks.read(record_at(partition), &mut record) {
-        Ok(()) => {}
-        Err(down) => return Err(down),
-    }
+    blocks.read(record_at(partition), &mut record)?;
     if !names(&record, partition_size(blocks.size()), listed) {
         return Ok(false);
     }
-    match sum_front(blocks, partition, length_in(&record), buffer) {
-        Ok(found) => Ok(found.is(listed)),
-        Err(down) => Err(down),
-    }
+    let found = sum_front(blocks, partition, length_in(&record), buffer)?;
+    Ok(found.is(listed))
 }

@@ -27,10 +27,8 @@ fn read_named<B: Blocks>(blocks: &mut B, at: u64) -> Result<Partition, Down>
     ensures named { IfOk result (λ p. IfSome (area_of (B.means blocks.old).disk) (λ area. p ≡ named_by (slice_index_or area at 0))) }
 {
     let mut byte = [0u8; 1];
-    match blocks.read(at, &mut byte) {
-        Ok(()) => Ok(Partition::named_by(byte[0])),
-        Err(down) => Err(down),
-    }
+    blocks.read(at, &mut byte)?;
+    Ok(Partition::named_by(byte[0]))
 }
 
 /// Syncs, so that what is read stands, and reads the choice and the origin.
@@ -38,18 +36,10 @@ pub(crate) fn settle<B: Blocks>(blocks: &mut B) -> Result<Named, Down>
     requires on { (B.means blocks.old).on ≡ true }
     ensures settles { Settles (B.means blocks.old) result (B.means blocks.new) }
 {
-    match blocks.sync() {
-        Ok(()) => {}
-        Err(down) => return Err(down),
-    }
-    let choice = match read_named(blocks, CHOICE) {
-        Ok(choice) => choice,
-        Err(down) => return Err(down),
-    };
-    match read_named(blocks, ORIGIN) {
-        Ok(origin) => Ok(Named { choice, origin }),
-        Err(down) => Err(down),
-    }
+    blocks.sync()?;
+    let choice = read_named(blocks, CHOICE)?;
+    let origin = read_named(blocks, ORIGIN)?;
+    Ok(Named { choice, origin })
 }
 
 /// Writes bytes at an offset, and syncs.
@@ -58,10 +48,7 @@ pub(crate) fn write_through<B: Blocks>(blocks: &mut B, at: u64, bytes: &[u8]) ->
     requires range { at + length bytes.now ≤ (B.means blocks.old).size }
     ensures sets { Sets at bytes.now (B.means blocks.old) result (B.means blocks.new) }
 {
-    match blocks.write(at, bytes) {
-        Ok(()) => {}
-        Err(down) => return Err(down),
-    }
+    blocks.write(at, bytes)?;
     blocks.sync()
 }
 
@@ -79,10 +66,7 @@ pub(crate) fn clean_up<B: Blocks>(blocks: &mut B) -> Result<(), Down>
     requires on { (B.means blocks.old).on ≡ true }
     ensures cleans { Cleans (B.means blocks.old) result (B.means blocks.new) }
 {
-    let named = match settle(blocks) {
-        Ok(named) => named,
-        Err(down) => return Err(down),
-    };
+    let named = settle(blocks)?;
     if named.origin.is(named.choice) {
         return Ok(());
     }
@@ -94,10 +78,7 @@ pub(crate) fn roll_back<B: Blocks>(blocks: &mut B) -> Result<(), Down>
     requires on { (B.means blocks.old).on ≡ true }
     ensures rolls { RollsBack (B.means blocks.old) result (B.means blocks.new) }
 {
-    let named = match settle(blocks) {
-        Ok(named) => named,
-        Err(down) => return Err(down),
-    };
+    let named = settle(blocks)?;
     if named.origin.is(named.choice) {
         return Ok(());
     }

@@ -9,7 +9,7 @@ use Rattle.ab_image.proofs.readiness.sum_front.Goals as goal
 pub loop-at-preserved : goal.loop-at-preserved
 loop-at-preserved g c =
     let inv = c.loop-at.invariant in
-    let step = c.in-Ok.ensures in
+    let step = c.in_ok-sum_piece.ensures in
     let disk = (g.B.Blocks.means c.args.blocks.now).disk in
     let want = c.least-want.result in
     let start = c.partition_at-start.result in
