@@ -109,7 +109,8 @@ origin-reach old n w c d e is set = both (area_of old.disk) (long-area old.disk 
     both None l c = tt
     both (Some area) l c = origin-set d e n.choice l c set
 
-pub choice-reach : (old : Medium) (n : Named) → IsMedium old → IfSome (area_of old.disk) (λ area. n.origin ≡ origin area) → (d : List ℕ) (e : List ℕ) → IfSome (area_of old.disk) (λ area. d ≡ area) → e ≡ overwritten choice_at (byte_of n.origin ∷ []) d → IfSome (area_of old.disk) (λ area. chosen e ≡ origin d)
+pub choice-reach : (old : Medium) (n : Named) → IsMedium old → IfSome (area_of old.disk) (λ area. n.origin ≡ origin area) → (d : List ℕ) (e : List ℕ) → IfSome (area_of old.disk) (λ area. d ≡ area)
+    → e ≡ overwritten choice_at (byte_of n.origin ∷ []) d → IfSome (area_of old.disk) (λ area. chosen e ≡ origin d)
 choice-reach old n w c d e is set = both (area_of old.disk) (long-area old.disk old.size w.disk w.least d is) (reached (λ area. n.origin ≡ origin area) (area_of old.disk) d is c)
   where
     both : (o : Option (List ℕ)) → IfSome o (λ area. 8192 ≤ length d) → IfSome o (λ area. n.origin ≡ origin d) → IfSome o (λ area. chosen e ≡ origin d)

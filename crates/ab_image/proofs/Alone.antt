@@ -18,7 +18,7 @@ use Rattle.ab_image.specs.Blocks.{Medium, EndsAs}
 use Rattle.ab_image.specs.Parts.{Within, KeepsByte, Calm, Aligns, Cleans, RollsBack}
 use Rattle.ab_image.specs.Words.{use_of}
 use Rattle.ab_image.specs.Answers.{IsProper, row_of, how_of, source_after, may_answer, answer_of}
-use Rattle.ab_image.specs.Act.{FindsImage, Answered, Writing, CleansUp, ActsFor, Says, WritesNothing, Rests, KeepsChoice, BootsAs, Leaves}
+use Rattle.ab_image.specs.Act.{FindsImage, Answered, Writing, CleansUp, ActsFor, Says, WritesNothing, Rests, KeepsChoice, BootsAs, Leaves, scene}
 use Rattle.ab_image.proofs.Areas.{Keeps, whole-kept, choice-apart, origin-apart}
 use Rattle.ab_image.proofs.Naming.{if-disk, where-both, names-kept, through-on}
 use Rattle.ab_image.proofs.Still.{when-all, if-all}
@@ -133,7 +133,7 @@ module _ (at : ℕ) (goal : List ℕ → List ℕ → Type 0) (old new : Medium)
   aligned-acts : (word : ModuleWord) → (use_of (Some word)).reads ≡ false → ((size : ℕ) (p : Partition) → Keeps (IsApart at 1) size p) → (content : Content) (faults : ℕ) (sink : Written) → Says (Some word) (answer_of r) sink sink
       → Writing (use_of (Some word)) old new (answer_of r) → (how_of (answer_of r) ≡ Through → WhereTold (λ d e. StaysOrNames choice_at d.area e.area × StaysOrNames origin_at d.area e.area) old.disk new.disk)
       → (Some word ≡ Some (State state.ArtifactRollback) → Leaves (answer_of r) old new (λ before after. chosen after ≡ origin before)) → (Some word ≡ Some (State state.Cleanup) → CleansUp old new (answer_of r))
-      → ActsFor (Some word) content (record { source_faults = faults; blocks = old; sink = sink }) (record { source_faults = faults; blocks = new; sink = sink }) (answer_of r)
+      → ActsFor (Some word) content (scene faults old sink) (scene faults new sink) (answer_of r)
   aligned-acts word alone apart content faults sink says writing named rolls cleans = record {
     answered = answered-alone word alone content old (answer_of r) (unread-answer r);
     counted = record { ends = ends-answer r old new a.ends; source = (unread (Some word) old.size faults (answer_of r) (unread-answer r)).source };
@@ -155,7 +155,7 @@ no-sink (Err Off) e = absurd cc
 no-sink (Err Fault) e = absurd cc
 
 pub cleans-acts : (content : Content) (faults : ℕ) (old new : Medium) (sink : Written) (r : Result (Unit {0}) Down) → Cleans old r new
-    → ActsFor (Some (State state.Cleanup)) content (record { source_faults = faults; blocks = old; sink = sink }) (record { source_faults = faults; blocks = new; sink = sink }) (answer_of r)
+    → ActsFor (Some (State state.Cleanup)) content (scene faults old sink) (scene faults new sink) (answer_of r)
 cleans-acts content faults old new sink r a =
     let goal : List ℕ → List ℕ → Type 0 = λ before after. Agree after in
     aligned-acts origin_at goal old new r a (State state.Cleanup) refl origin-apart content faults sink (no-sink r, refl)
@@ -171,7 +171,7 @@ cleans-acts content faults old new sink r a =
     (λ e. record { origin_alone = a.within; cleanup_done = done-goal origin_at goal old new r a })
 
 pub rolls-acts : (content : Content) (faults : ℕ) (old new : Medium) (sink : Written) (r : Result (Unit {0}) Down) → RollsBack old r new
-    → ActsFor (Some (State state.ArtifactRollback)) content (record { source_faults = faults; blocks = old; sink = sink }) (record { source_faults = faults; blocks = new; sink = sink }) (answer_of r)
+    → ActsFor (Some (State state.ArtifactRollback)) content (scene faults old sink) (scene faults new sink) (answer_of r)
 rolls-acts content faults old new sink r a =
     let goal : List ℕ → List ℕ → Type 0 = λ before after. chosen after ≡ origin before in
     aligned-acts choice_at goal old new r a (State state.ArtifactRollback) refl choice-apart content faults sink (no-sink r, refl)

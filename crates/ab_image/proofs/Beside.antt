@@ -81,7 +81,8 @@ module _ (size : ℕ) (target : Partition) where
       holds : (d : Disk) → IsWholeDisk size (Some d) → MayHold (Some d) d.area
       holds d w = refilled_self _ d.area w.bytes
 
-  pub boots-stored : (old mid new : Option Disk) → BothTold old mid → BothTold mid new → IsWholeDisk size mid → IsSettled mid → IfSome mid (λ d. IsFree target d.area) → Touches (IsApart origin_at 1) old mid → Touches (IsBeside size target) mid new → (area : List ℕ) → MayHold new area → BootsAs old area
+  pub boots-stored : (old mid new : Option Disk) → BothTold old mid → BothTold mid new → IsWholeDisk size mid → IsSettled mid → IfSome mid (λ d. IsFree target d.area)
+      → Touches (IsApart origin_at 1) old mid → Touches (IsBeside size target) mid new → (area : List ℕ) → MayHold new area → BootsAs old area
   boots-stored None None None t u w s free first last area held = record { before = area; held = held; same = λ image w. w }
   boots-stored None None (Some e) t u w s free first last area held = absurd u
   boots-stored None (Some d) new t u w s free first last area held = absurd t

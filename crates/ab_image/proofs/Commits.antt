@@ -24,7 +24,7 @@ use Rattle.ab_image.specs.Artifact.{is_type_info, listed_in, listed}
 use Rattle.ab_image.specs.Finding.{IsFound, NoSum, listed_at}
 use Rattle.ab_image.specs.Choosing.{IsOtherReady, IsUnready, IsEitherBy, Chooses, choice_answer}
 use Rattle.ab_image.specs.Answers.{IsCut, IsProper, row_of, how_of, source_after, may_answer}
-use Rattle.ab_image.specs.Act.{Comes, HasNoSum, IsNotReady, Answered, ActsFor, WritesNothing, Rests, KeepsChoice, FoundReady, IsEither}
+use Rattle.ab_image.specs.Act.{Comes, HasNoSum, IsNotReady, Answered, ActsFor, WritesNothing, Rests, KeepsChoice, FoundReady, IsEither, scene}
 use Rattle.ab_image.proofs.Areas.{choice-apart}
 use Rattle.ab_image.proofs.Alone.{within-boots, off-answer}
 use Rattle.ab_image.proofs.Naming.{if-disk, where-both, names-kept, through-on}
@@ -104,14 +104,14 @@ cut-answered content old result u is = answered-commit content old result u
 
 -- a call of the source failed
 pub faulted-acts : (content : Content) (faults after : ℕ) (blocks : Medium) (sink : Written) → blocks.on ≡ true → after ≡ counted faults
-    → ActsFor committed content (record { source_faults = faults; blocks = blocks; sink = sink }) (record { source_faults = after; blocks = blocks; sink = sink }) answer.SourceFault
+    → ActsFor committed content (scene faults blocks sink) (scene after blocks sink) answer.SourceFault
 faulted-acts content faults after blocks sink on e =
     still-acts committed content faults after blocks sink sink answer.SourceFault (cut-answered content blocks answer.SourceFault tt refl) (record { ends = ends-still Through blocks refl on; source = e }) (λ e. absurd cc, refl) (λ e. absurd cc)
 
 -- no sum is listed, or none was read
 pub unlisted-acts : (content : Content) (faults after : ℕ) (blocks : Medium) (sink : Written) (type_info : Option ℕ) (stop : AbAct) → blocks.on ≡ true → after ≡ source_after stop faults
     → NoSum content type_info stop → (When content (λ tree. listed_at tree type_info ≡ None) → When content (λ tree. listed tree ≡ None))
-    → ActsFor committed content (record { source_faults = faults; blocks = blocks; sink = sink }) (record { source_faults = after; blocks = blocks; sink = sink }) stop
+    → ActsFor committed content (scene faults blocks sink) (scene after blocks sink) stop
 unlisted-acts content faults after blocks sink type_info answer.NoChecksum on e h lists =
     still-acts committed content faults after blocks sink sink answer.NoChecksum (answered-commit content blocks answer.NoChecksum tt (no-sum content (lists h)) (unlisted content blocks.disk (lists h)))
     (record { ends = ends-still Through blocks refl on; source = e }) (λ e. absurd cc, refl) (λ e. absurd cc)
@@ -223,7 +223,7 @@ rests-choice (Err Off) old new c = record { area = λ ne. absurd (ne refl); keep
 rests-choice (Err Fault) old new c = record { area = λ ne. c.area; keeps = c.keeps }
 
 pub chooses-acts : (content : Content) (faults : ℕ) (sum : List ℕ) (old new : Medium) (sink : Written) (r : Result Bool Down) → When content (λ tree. listed tree ≡ Some sum) → Chooses sum old r new
-    → ActsFor committed content (record { source_faults = faults; blocks = old; sink = sink }) (record { source_faults = faults; blocks = new; sink = sink }) (choice_answer r)
+    → ActsFor committed content (scene faults old sink) (scene faults new sink) (choice_answer r)
 chooses-acts content faults sum old new sink r lists c = record {
   answered = answered-choice content sum lists old new r c;
   counted = record { ends = choice-ends r old new c.ends; source = choice-faults r faults };

@@ -86,7 +86,8 @@ written-told : (at : ℕ) (bytes : List ℕ) (a b : Option Disk) → b ≡ optio
 written-told at bytes None b e = subst (λ (x : Option Disk). WhereTold (λ d e. e.area ≡ overwritten at bytes d.area) None x) (sym e) tt
 written-told at bytes (Some d) b e = subst (λ (x : Option Disk). WhereTold (λ d e. e.area ≡ overwritten at bytes d.area) (Some d) x) (sym e) refl
 
-pub part-written : (T : Type 0) (x : T) (c : Content) (i at n to : ℕ) (piece : List ℕ) (old new : Medium) → EndsWrite to piece old (went T x) new → When c (λ t. piece ≡ take n (drop at (bytes_at t i))) → When c (λ t. WhereTold (λ d e. e.area ≡ overwritten to (take n (drop at (bytes_at t i))) d.area) old.disk new.disk)
+pub part-written : (T : Type 0) (x : T) (c : Content) (i at n to : ℕ) (piece : List ℕ) (old new : Medium) → EndsWrite to piece old (went T x) new
+    → When c (λ t. piece ≡ take n (drop at (bytes_at t i))) → When c (λ t. WhereTold (λ d e. e.area ≡ overwritten to (take n (drop at (bytes_at t i))) d.area) old.disk new.disk)
 part-written T x (Untold m) i at n to piece old new h e = tt
 part-written T x (Told t) i at n to piece old new h e =
     subst (λ (bytes : List ℕ). WhereTold (λ d e. e.area ≡ overwritten to bytes d.area) old.disk new.disk) e (written-told to piece old.disk new.disk (ap (λ (m : Medium). m.disk) h.1))

@@ -157,7 +157,8 @@ sets-area : {T : Type 0} (at : ℕ) (bytes : List ℕ) (old mid : Medium) (r : R
 sets-area at bytes old mid (Ok x) new e h = area-written at bytes old.disk new.disk (ap (λ (m : Medium). m.disk) h.1 ∙ ap (λ (m : Medium). option_map synced m.disk) e)
 sets-area at bytes old mid (Err d) new e h = tt
 
-pub sets-then : (S : Type 0) (at : ℕ) (bytes : List ℕ) (x : S) (old mid : Medium) (r : Result (Unit {0}) Down) (new : Medium) → at + length bytes ≤ old.size → IsWhole old.size old.disk → old.on ≡ true → EndsWrite at bytes old (went S x) mid → EndsSync mid r new → KeepsDisk mid.disk new.disk → Sets at bytes old r new
+pub sets-then : (S : Type 0) (at : ℕ) (bytes : List ℕ) (x : S) (old mid : Medium) (r : Result (Unit {0}) Down) (new : Medium) → at + length bytes ≤ old.size → IsWhole old.size old.disk
+    → old.on ≡ true → EndsWrite at bytes old (went S x) mid → EndsSync mid r new → KeepsDisk mid.disk new.disk → Sets at bytes old r new
 sets-then S at bytes x old mid r new fits w on h s k =
     let first = write-ends at bytes old (went S x) mid on h in
     let calm = calm-sync mid r new first.on s k in

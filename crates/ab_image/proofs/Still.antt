@@ -16,7 +16,7 @@ use Rattle.ab_image.specs.Layout.{choice_at, origin_at, IsSpared, IsSane}
 use Rattle.ab_image.specs.Blocks.{Medium, EndsAs}
 use Rattle.ab_image.specs.Parts.{Within, KeepsByte}
 use Rattle.ab_image.specs.Words.{Use, Nowhere, use_of}
-use Rattle.ab_image.specs.Act.{Answered, Counted, Stands, Writing, ActsFor, Says, KeepsChoice, FoundReady, IsEither}
+use Rattle.ab_image.specs.Act.{Answered, Counted, Stands, Writing, ActsFor, Says, KeepsChoice, FoundReady, IsEither, scene}
 use Rattle.ab_image.proofs.Withins.{touches-self}
 use Rattle.ab_image.proofs.Naming.{names-self, rests-still}
 use Rattle.ab_image.proofs.Choices.{IsHeld, held-sane}
@@ -65,9 +65,9 @@ writing-still does blocks result = record {
 
 -- it isn't done, or has nothing to do
 pub still-acts : (word : Option ModuleWord) (content : Content) (faults after : ℕ) (blocks : Medium) (before behind : Written) (result : AbAct) → Answered word content blocks result
-    → Counted (record { source_faults = faults; blocks = blocks; sink = before }) (record { source_faults = after; blocks = blocks; sink = behind }) result → Says word result before behind
+    → Counted (scene faults blocks before) (scene after blocks behind) result → Says word result before behind
     → (result ≡ answer.Done → (use_of word).writes ≡ Nowhere)
-    → ActsFor word content (record { source_faults = faults; blocks = blocks; sink = before }) (record { source_faults = after; blocks = blocks; sink = behind }) result
+    → ActsFor word content (scene faults blocks before) (scene after blocks behind) result
 still-acts word content faults after blocks before behind result answered counted says done_idle = record {
   answered = answered;
   counted = counted;

@@ -15,7 +15,7 @@ use Rattle.ab_image.specs.Parts.{BothTold}
 use Rattle.ab_image.specs.Artifact.{image_of, listed}
 use Rattle.ab_image.specs.Finding.{IsImageOf}
 use Rattle.ab_image.specs.Answers.{IsCut, IsProper, row_of, source_after, may_answer}
-use Rattle.ab_image.specs.Act.{Comes, HasCount, HasNoSum, IsTooLong, HasOtherSum, Answered, ActsFor, HoldsImage}
+use Rattle.ab_image.specs.Act.{Comes, HasCount, HasNoSum, IsTooLong, HasOtherSum, Answered, ActsFor, HoldsImage, scene}
 use Rattle.ab_image.specs.Taking.{Judges, Stores}
 use Rattle.ab_image.proofs.Steps.{told-any}
 use Rattle.ab_image.proofs.Naming.{where-both, names-kept, through-on}
@@ -158,7 +158,7 @@ pub record IsTaken (c : Content) (file : ℕ) (new : Option Disk) : Type 0 where
 
 pub taken-acts : (c : Content) (image : Image) (before between behind : ℕ) (old new : Medium) (sink : Written) (r : AbAct) → When c (λ tree. IsImageOf tree image) → IsLength c image.file image.size → image.size ≤ partition_size old.size → between ≡ before
     → behind ≡ source_after r between → Judges c image.file image.listed r → Stores r old new → (r ≡ answer.Done → IsTaken c image.file new.disk)
-    → ActsFor download c (record { source_faults = before; blocks = old; sink = sink }) (record { source_faults = behind; blocks = new; sink = sink }) r
+    → ActsFor download c (scene before old sink) (scene behind new sink) r
 taken-acts c image before between behind old new sink r f l fits counts source j s taken =
     let not : (a : AbAct) → r ≡ a → Judges c image.file image.listed a = λ a e. subst (λ (a : AbAct). Judges c image.file image.listed a) e j in
     record {

@@ -15,7 +15,7 @@ use Rattle.ab_image.specs.Blocks.{Medium}
 use Rattle.ab_image.specs.Artifact.{count_images, image_of, listed}
 use Rattle.ab_image.specs.Finding.{NoImage}
 use Rattle.ab_image.specs.Answers.{IsCut, IsProper, how_of, source_after, may_answer}
-use Rattle.ab_image.specs.Act.{Comes, FindsImage, HasCount, HasNoSum, IsTooLong, HasOtherSum, Answered, ActsFor}
+use Rattle.ab_image.specs.Act.{Comes, FindsImage, HasCount, HasNoSum, IsTooLong, HasOtherSum, Answered, ActsFor, scene}
 use Rattle.ab_image.proofs.Still.{when-all, if-all, ends-still, still-acts}
 
 abbrev pub download : Option ModuleWord
@@ -157,7 +157,7 @@ answered-unfound content old stop n = record {
 -- ---- what is left
 
 pub unfound-acts : (content : Content) (before behind : ℕ) (blocks : Medium) (sink : Written) (stop : AbAct) → blocks.on ≡ true → NoImage content (partition_size blocks.size) stop → behind ≡ source_after stop before
-    → ActsFor download content (record { source_faults = before; blocks = blocks; sink = sink }) (record { source_faults = behind; blocks = blocks; sink = sink }) stop
+    → ActsFor download content (scene before blocks sink) (scene behind blocks sink) stop
 unfound-acts content before behind blocks sink stop on n counts =
     let not : (a : AbAct) → stop ≡ a → NoImage content (partition_size blocks.size) a = λ a e. subst (λ (a : AbAct). NoImage content (partition_size blocks.size) a) e n in
     still-acts download content before behind blocks sink sink stop (answered-unfound content blocks stop n)

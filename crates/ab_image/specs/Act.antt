@@ -25,6 +25,9 @@ pub record Scene : Type 0 where
   pub blocks : Medium
   pub sink : Written
 
+abbrev pub scene : ℕ → Medium → Written → Scene
+scene source_faults blocks sink = record { source_faults = source_faults; blocks = blocks; sink = sink }
+
 -- ---- why a call answers so
 
 -- an answer comes exactly where there is this cause, unless a call was cut before

@@ -4,7 +4,7 @@ ghost use Rattle.std.specs.Prelude.{◌≡◌, ◌<◌, ℕ, true, false, length
 ghost use Rattle.io_model.specs.Source.{Content};
 ghost use Rattle.ab_image.specs.Words.{use_of};
 ghost use Rattle.ab_image.specs.Answers.{answer_of};
-ghost use Rattle.ab_image.specs.Act.{Acts, ActsFor};
+ghost use Rattle.ab_image.specs.Act.{Acts, ActsFor, scene};
 
 use crate::blocks::Blocks;
 use crate::committing::commit;
@@ -29,7 +29,9 @@ pub fn act<S: Source, B: Blocks, O: Sink>(
     requires room { 0 < length buffer.old }
     ensures same { S.content source.new ≡ S.content source.old }
     ensures plan { S.plan source.new ≡ S.plan source.old }
-    ensures acts { Acts words.now (S.content source.old) (record { source_faults = S.faults source.old; blocks = B.means blocks.old; sink = O.means out.old }) (record { source_faults = S.faults source.new; blocks = B.means blocks.new; sink = O.means out.new }) result }
+    ensures acts { Acts words.now (S.content source.old)
+        (scene (S.faults source.old) (B.means blocks.old) (O.means out.old))
+        (scene (S.faults source.new) (B.means blocks.new) (O.means out.new)) result }
 {
     match ModuleWord::of_call(words) {
         None => AbAct::Usage,
@@ -50,7 +52,9 @@ fn act_for<S: Source, B: Blocks, O: Sink>(
     requires room { 0 < length buffer.old }
     ensures same { S.content source.new ≡ S.content source.old }
     ensures plan { S.plan source.new ≡ S.plan source.old }
-    ensures acts { ActsFor (Some word) (S.content source.old) (record { source_faults = S.faults source.old; blocks = B.means blocks.old; sink = O.means out.old }) (record { source_faults = S.faults source.new; blocks = B.means blocks.new; sink = O.means out.new }) result }
+    ensures acts { ActsFor (Some word) (S.content source.old)
+        (scene (S.faults source.old) (B.means blocks.old) (O.means out.old))
+        (scene (S.faults source.new) (B.means blocks.new) (O.means out.new)) result }
 {
     match word {
         ModuleWord::State(ModState::Download) => download(alloc, source, blocks, buffer),
@@ -63,7 +67,9 @@ fn act_for<S: Source, B: Blocks, O: Sink>(
 fn act_alone<B: Blocks, O: Sink>(word: ModuleWord, blocks: &mut B, out: &mut O) -> AbAct
     requires on { (B.means blocks.old).on ≡ true }
     requires alone { (use_of (Some word)).reads ≡ false }
-    ensures acts { (content : Content) (faults : ℕ) → ActsFor (Some word) content (record { source_faults = faults; blocks = B.means blocks.old; sink = O.means out.old }) (record { source_faults = faults; blocks = B.means blocks.new; sink = O.means out.new }) result }
+    ensures acts { (content : Content) (faults : ℕ) → ActsFor (Some word) content
+        (scene faults (B.means blocks.old) (O.means out.old))
+        (scene faults (B.means blocks.new) (O.means out.new)) result }
 {
     match word {
         ModuleWord::Ask(query) => match reply(query, out) {

@@ -4,7 +4,7 @@ ghost use Rattle.std.specs.Prelude.{◌≡◌, ◌<◌, true, length, Some};
 ghost use Rattle.device_model.specs.declared.calls.ModState.TheVariants.{ArtifactCommit};
 ghost use Rattle.device_model.specs.declared.module_word.ModuleWord.TheVariants.{State};
 ghost use Rattle.io_model.specs.Sink.{Written};
-ghost use Rattle.ab_image.specs.Act.{ActsFor};
+ghost use Rattle.ab_image.specs.Act.{ActsFor, scene};
 ghost use Rattle.ab_image.specs.Choosing.{Chooses, choice_answer};
 
 use crate::artifact::{Found, find_files, listed_sum};
@@ -62,7 +62,9 @@ pub(crate) fn commit<S: Source, B: Blocks>(
     requires room { 0 < length buffer.old }
     ensures same { S.content source.new ≡ S.content source.old }
     ensures plan { S.plan source.new ≡ S.plan source.old }
-    ensures acts { (sink : Written) → ActsFor (Some (State ArtifactCommit)) (S.content source.old) (record { source_faults = S.faults source.old; blocks = B.means blocks.old; sink = sink }) (record { source_faults = S.faults source.new; blocks = B.means blocks.new; sink = sink }) result }
+    ensures acts { (sink : Written) → ActsFor (Some (State ArtifactCommit)) (S.content source.old)
+        (scene (S.faults source.old) (B.means blocks.old) sink)
+        (scene (S.faults source.new) (B.means blocks.new) sink) result }
 {
     let found: Found = match find_files(source) {
         Ok(found) => found,

@@ -51,7 +51,8 @@ fn copy_piece<S: Source, B: Blocks>(
     ensures some { IfOk result (λ n. 0 < n) }
     ensures most { IfOk result (λ n. n ≤ rest.left) }
     ensures summed { IfOk result (λ n. When (S.content source.old) (λ t. Has summing.old (take rest.at (bytes_at t rest.file)) → Has summing.new (take (rest.at + n) (bytes_at t rest.file)))) }
-    ensures written { IfOk result (λ n. When (S.content source.old) (λ t. WhereTold (λ d e. e.area ≡ overwritten rest.to (take n (drop rest.at (bytes_at t rest.file))) d.area) (B.means blocks.old).disk (B.means blocks.new).disk)) }
+    ensures written { IfOk result (λ n. When (S.content source.old) (λ t.
+        WhereTold (λ d e. e.area ≡ overwritten rest.to (take n (drop rest.at (bytes_at t rest.file))) d.area) (B.means blocks.old).disk (B.means blocks.new).disk)) }
 {
     let want = least(rest.left, buffer.len());
     let n = match source.read(rest.file, rest.at, &mut buffer[..want]) {

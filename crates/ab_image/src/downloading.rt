@@ -8,7 +8,7 @@ ghost use Rattle.io_model.specs.Sink.{Written};
 ghost use Rattle.io_model.specs.Source.{count_of, When, IsLength, bytes_at};
 ghost use Rattle.ab_image.specs.Layout.{partition_size, other, chosen, Agree, IsBeside, Whole};
 ghost use Rattle.ab_image.specs.Answers.{source_after};
-ghost use Rattle.ab_image.specs.Act.{ActsFor};
+ghost use Rattle.ab_image.specs.Act.{ActsFor, scene};
 ghost use Rattle.ab_image.specs.Taking.{Frees, Judges, Spares, Stores};
 
 use crate::blocks::Blocks;
@@ -104,7 +104,9 @@ pub(crate) fn download<S: Source, B: Blocks>(
     requires room { 0 < length buffer.old }
     ensures same { S.content source.new ≡ S.content source.old }
     ensures plan { S.plan source.new ≡ S.plan source.old }
-    ensures acts { (sink : Written) → ActsFor (Some (State Download)) (S.content source.old) (record { source_faults = S.faults source.old; blocks = B.means blocks.old; sink = sink }) (record { source_faults = S.faults source.new; blocks = B.means blocks.new; sink = sink }) result }
+    ensures acts { (sink : Written) → ActsFor (Some (State Download)) (S.content source.old)
+        (scene (S.faults source.old) (B.means blocks.old) sink)
+        (scene (S.faults source.new) (B.means blocks.new) sink) result }
 {
     match find_image(alloc, source, partition_size(blocks.size())) {
         Ok(image) => store(source, blocks, &image, buffer),

@@ -25,7 +25,8 @@ fn sum_piece<B: Blocks>(
     requires range { at + length into.old ≤ (B.means blocks.old).size }
     ensures calm { Calm (B.means blocks.old) result (B.means blocks.new) }
     ensures same { OnOk result (B.means blocks.new ≡ B.means blocks.old) }
-    ensures next { OnOk result (IfSome (area_of (B.means blocks.old).disk) (λ area. (message : List ℕ) → Has summing.old message → Has summing.new (message ++ take (length into.old) (drop at area)))) }
+    ensures next { OnOk result (IfSome (area_of (B.means blocks.old).disk) (λ area.
+        (message : List ℕ) → Has summing.old message → Has summing.new (message ++ take (length into.old) (drop at area)))) }
 {
     blocks.read(at, into)?;
     summing.piece(into);

@@ -2,7 +2,7 @@ use Rattle.std.proofs.Common.{◌≡◌, ◌∙◌, ℕ, Some, None, sym, ap, su
 use Rattle.io_model.specs.Source.{Content, When}
 use Rattle.ab_image.specs.declared.report.AbAct.{AbAct}
 use Rattle.ab_image.specs.Answers.{source_after}
-use Rattle.ab_image.specs.Act.{ActsFor}
+use Rattle.ab_image.specs.Act.{ActsFor, scene}
 use Rattle.ab_image.specs.Finding.{NoSum, listed_at}
 use Rattle.ab_image.proofs.Commits.{committed, lists, faulted-acts, unlisted-acts, chooses-acts}
 use Rattle.ab_image.proofs.committing.commit.Goals as goal
@@ -30,6 +30,6 @@ returns-clause-acts g c = λ sink.
     let found = c.in-Ok.found in
     let sum = c.in-Ok-listed_sum.listed in
     let told = subst (λ (t : Content). When t (λ tree. listed_at tree found.type_info ≡ Some sum)) c.in-Ok.ensures.same c.in-Ok-listed_sum.ensures.listed in
-    subst (λ (n : ℕ). ActsFor committed content (record { source_faults = faults; blocks = old; sink = sink }) (record { source_faults = n; blocks = new; sink = sink }) c.answered.result) (sym (c.in-Ok-listed_sum.ensures.stops ∙ c.in-Ok.ensures.counts))
-    (subst (λ (a : AbAct). ActsFor committed content (record { source_faults = faults; blocks = old; sink = sink }) (record { source_faults = faults; blocks = new; sink = sink }) a) (sym c.answered.ensures)
+    subst (λ (n : ℕ). ActsFor committed content (scene faults old sink) (scene n new sink) c.answered.result) (sym (c.in-Ok-listed_sum.ensures.stops ∙ c.in-Ok.ensures.counts))
+    (subst (λ (a : AbAct). ActsFor committed content (scene faults old sink) (scene faults new sink) a) (sym c.answered.ensures)
     (chooses-acts content faults sum old new sink c.choose.result (lists content found (Some sum) c.in-Ok.ensures.found told) c.choose.ensures.chooses))
