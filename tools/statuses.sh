@@ -258,6 +258,73 @@ ends 15 'no folder' trace_cli nowhere
 ends 15 'two folders' trace_cli notes notes
 tells 'usage: trace_cli FOLDER'
 
+# The notes that the client writes of its boots.
+client_notes() {
+    "$(program client_cli)" --data d --trace "$@"
+}
+
+# Sees that the last command wrote $1 and behind it a note, which is put to the others.
+notes() {
+    head -n 1 out > answer
+    sed 1d out > note
+    cat note >> notes/trace
+    cp answer out
+    says "$1"
+    ends 0 "$title: its note" trace_cli notes
+    says path
+}
+
+device d < /dev/null
+rm -f notes/trace
+ends 0 'an install with its note' client_notes install app
+cp out first
+notes committed
+sed 's/^kind single-file$/kind app/' whole > out
+title='the note of an install'
+says "$(sed 1d first)"
+ends 2 'a resume of nothing, with its note' client_notes resume
+cp out first
+notes 'no update'
+cp first out
+title='the note of nothing'
+says "$(printf 'no update\nboot resume\nfrom Idle Committed 0 No 5\nend none')"
+ends 1 'a payload with another sum, with its note' client_notes install other
+notes "refused 18 data/0000/app.bin $(printf abc | sha256sum | head -c 64) $(printf abd | sha256sum | head -c 64)"
+device d <<'END'
+case $1 in
+SupportsRollback) printf Yes ;;
+NeedsArtifactReboot) printf Yes ;;
+esac
+END
+rm -f notes/trace
+ends 4 'a reboot that is needed, with its note' client_notes install app
+notes 'reboot needed'
+ends 13 'an install while one is in progress, with its note' client_notes install app
+notes 'not now 1 Reboot'
+ends 0 'a stop before the commit, with its note' client_notes resume --stop-before ArtifactCommit
+notes waiting
+ends 0 'a rollback, with its note' client_notes rollback
+cp out first
+if [ "$(head -n 1 first)" = 'reboot needed' ]; then title='a rollback'; fi
+notes "$(head -n 1 first)"
+cp notes/trace several
+ends 0 'an answer without a note' client --data d --trace show-artifact
+says unknown
+ends 0 'a check without a note' client --data d --trace check app
+says admitted
+cp -r app headless
+echo >> headless/manifest
+ends 1 'an install of a tree that is refused, without a note' client_notes install headless
+says "$(client --data d install headless)"
+ends 9 'a trace behind the command' client --data d install --trace app
+says 'usage 4 4'
+ends 9 'a trace of no command' client --trace
+says 'usage 1'
+ends 8 'a note that is not written' sh -c '"$1" --data d --trace resume > /dev/full' sh "$(program client_cli)"
+sed '/^module 0 ArtifactInstall$/,/^exit 0$/d' several > notes/trace
+ends 3 'a note without its install' trace_cli notes
+says 'broken 0 4'
+
 # The signature of a manifest, by the key, the manifest and the signature of the program's stored run.
 signed_cli() {
     "$(program signed_cli)" "$@"

@@ -27,7 +27,7 @@ use upd_text::{CallList, Name, NoMemory};
 const FOLDER: &str = "mender-data";
 
 /// The forms of the command line, which standard error lists for words that are none of them.
-const FORMS: &str = "client_cli [--data DIR] COMMAND, where COMMAND is one of
+const FORMS: &str = "client_cli [--data DIR] [--trace] COMMAND, where COMMAND is one of
     install TREE
     check TREE
     resume [--stop-before ArtifactCommit]

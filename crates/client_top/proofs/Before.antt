@@ -8,7 +8,7 @@ use Rattle.device_model.specs.Work.{Work}
 use Rattle.device_model.specs.State.{State}
 use Rattle.device_model.specs.How.{Through, Passed, SameArea, has_start, work_after}
 use Rattle.device_model.proofs.Passes.{passed-then, journal-through}
-use Rattle.io_model.specs.Source.{Content, When}
+use Rattle.io_model.specs.Source.{Content}
 use Rattle.admit.proofs.Spared.{reads_after}
 use Rattle.flow_words.specs.Pieces.{End}
 use Rattle.script_names.specs.declared.site.Site.{Site}

@@ -1,6 +1,6 @@
 -- The note of a boot over what is told has a text.
-use Rattle.std.proofs.Common.{◌≡◌, ℕ, Bool, true, false, List, [], ◌∷◌, length, refl, sym, ap, ◌∙◌, subst, arith}
-use Rattle.std.specs.Prelude.{◌≤◌, ◌&&◌, ◌||◌, nat_le, Option, Some, None, Result, Ok, Err}
+use Rattle.std.proofs.Common.{◌≡◌, ℕ, Bool, true, false, List, [], length, refl, sym, ap, ◌∙◌, subst, arith}
+use Rattle.std.specs.Prelude.{◌≤◌, ◌&&◌, ◌||◌, nat_le, Option, Some, Result, Ok, Err}
 use Rattle.std.specs.List.{list_all}
 use Rattle.std.proofs.lemmas.Bool.Decides.{nat_tests}
 use Rattle.device_model.specs.declared.calls.Event.{Event}
@@ -39,7 +39,7 @@ use Rattle.client_top.specs.Answers.{Words, end_of}
 use Rattle.client_top.specs.Boot.{Boot, nothing, stays, runs, begins, breaks_off}
 use Rattle.client_top.specs.Finds.{Request, Found, Starts, Stays, Unsaid, finds, found_for, begun, beginning, installed, ordered, starting}
 use Rattle.client_top.specs.Notes.{end_noted}
-use Rattle.client_top.specs.Looks.{IsHead}
+use Rattle.client_top.specs.Looks.{IsHeadOf}
 use Rattle.client_top.specs.Traced.{deed_noted, head_of, head_held, head_planned, unless_refused, with_lists, is_noted}
 use Rattle.client_top.proofs.Starts.{starting-at, after-head, opened}
 use Rattle.client_top.proofs.Waits.{waiting, never-begins}
@@ -161,7 +161,7 @@ module _ (site : Site) (t : Tree) (c : Db) (right : IfFull IsRight c) (head : No
         few = subst (λ (l : List (List ℕ)). length l ≤ MOST_KINDS) (sym kinds) fits.few;
       }
 
-  of-planned : (e : Entry) (p : Position) → IsHead Install head → head_of Install site t c ≡ Some head → beginning (position_of c).state site (Told t) c ≡ Starts e p → Of head c e
+  of-planned : (e : Entry) (p : Position) → IsHeadOf Install head → head_of Install site t c ≡ Some head → beginning (position_of c).state site (Told t) c ≡ Starts e p → Of head c e
   of-planned e p is h found =
       let w = heads-by (position_of c).state c site t e p found in
       record {
@@ -174,10 +174,10 @@ module _ (site : Site) (t : Tree) (c : Db) (right : IfFull IsRight c) (head : No
   of-order d o e p not h found = of-held d e not h (order-full o c e p found)
 
   -- the head of a boot that runs a deployment is of that
-  of-runs : (d : Deed) (w : Words) (e : Entry) (p : Position) → deed_noted true w ≡ Some d → IsHead d head → head_of d site t c ≡ Some head → found_for w site (Told t) c ≡ Starts e p → Of head c e
+  of-runs : (d : Deed) (w : Words) (e : Entry) (p : Position) → deed_noted true w ≡ Some d → IsHeadOf d head → head_of d site t c ≡ Some head → found_for w site (Told t) c ≡ Starts e p → Of head c e
   of-runs d (Ok command.Install) e p noted is h found =
       let same = some-deed noted in
-      of-planned e p (subst (λ (x : Deed). IsHead x head) same is) (subst (λ (x : Deed). head_of x site t c ≡ Some head) same h) found
+      of-planned e p (subst (λ (x : Deed). IsHeadOf x head) same is) (subst (λ (x : Deed). head_of x site t c ≡ Some head) same h) found
   of-runs d (Ok command.Resume) e p noted is h found = of-order d order.Resume e p (differ d Resume (some-deed noted) refl) h found
   of-runs d (Ok command.ResumeStop) e p noted is h found = of-order d order.ResumeStop e p (differ d ResumeStop (some-deed noted) refl) h found
   of-runs d (Ok command.Commit) e p noted is h found = of-order d order.Commit e p (differ d Commit (some-deed noted) refl) h found
@@ -224,7 +224,7 @@ some-end : {a b : End} → Some a ≡ Some b → a ≡ b
 some-end h = cc
 
 module _ (asked : Request) (t : Tree) (told : asked.content ≡ Told t) (c : Db) (right : IfFull IsRight c) (d : Deed) (noted : deed_noted true asked.command ≡ Some d)
-    (head : NoteHead) (is : IsHead d head) (h : head_of d asked.site t c ≡ Some head) where
+    (head : NoteHead) (is : IsHeadOf d head) (h : head_of d asked.site t c ≡ Some head) where
   began : is_place head.from ≡ true
   began = subst (λ (p : Position). is_place p ≡ true) (sym (head-from asked.site t c d head h)) (place-of c right)
 

@@ -1,6 +1,6 @@
 -- What a look at the store and the tree finds, and what is answered where it fails.
-use Rattle.std.proofs.Common.{◌≡◌, ◌⊎◌, ⊎_elim, inl, inr, ℕ, Bool, true, false, List, [], refl, sym, ap, ◌∙◌, subst, arith}
-use Rattle.std.specs.Prelude.{◌≢◌, ◌≤◌, ◌-◌, Option, Some, None, Result, Ok, Err, IsTrue}
+use Rattle.std.proofs.Common.{◌≡◌, ◌⊎◌, ⊎_elim, inl, inr, Bool, true, false, [], refl, sym, ap, subst, arith}
+use Rattle.std.specs.Prelude.{◌≢◌, Option, Some, Result, Ok, Err, IsTrue}
 use Rattle.device_model.specs.State.{State}
 use Rattle.device_model.proofs.Passes.{room-through}
 use Rattle.io_model.specs.Source.{Content, When}
@@ -25,14 +25,14 @@ use Rattle.trace_check.specs.declared.note.Deed.TheVariants.{Install, Resume, Re
 use Rattle.trace_check.specs.declared.note.NoteHead.{NoteHead}
 use Rattle.client_top.specs.declared.status.Status.{Status}
 use Rattle.client_top.specs.declared.status.Status.TheVariants.{Done, Refused, NoUpdate, Inconsistent, RebootNeeded, DiskFault, SourceFault, NoMemory, SinkFault, Usage, PowerOff, BadStore, TooLarge, NotNow, NotInstalled}
-use Rattle.client_top.specs.Answers.{Words, opens, reads, weighs}
+use Rattle.client_top.specs.Answers.{Words, opens, weighs}
 use Rattle.client_top.specs.Boot.{nothing}
-use Rattle.client_top.specs.Did.{Did, Shelf, Reads}
+use Rattle.client_top.specs.Did.{Shelf, Reads}
 use Rattle.client_top.specs.Finds.{Request}
 use Rattle.client_top.specs.Looks.{Looked, read, bad, Looks, Plans, Spares, Fails, unmounted}
 use Rattle.client_top.specs.Steps.{Mounted, Tells, not_mounted, count_after}
-use Rattle.client_top.specs.Traced.{DoesAs, as_asked, looks, deed_noted, head_held, head_of, is_noted}
-use Rattle.client_top.proofs.Before.{Between, between, noted-reads}
+use Rattle.client_top.specs.Traced.{as_asked, looks, deed_noted, head_held, head_of, is_noted}
+use Rattle.client_top.proofs.Before.{Between, noted-reads}
 use Rattle.client_top.proofs.Mounts.{still-did, not-mounted-tells, reads-nothing}
 
 -- ---- what the device has left

@@ -1,5 +1,5 @@
 -- A command behind its look, with its note behind its text.
-use Rattle.std.proofs.Common.{◌≡◌, ◌⊎◌, ⊎_elim, inl, inr, ℕ, Bool, true, false, List, [], ◌++◌, refl, sym, ap, ◌∙◌, subst, append-nil}
+use Rattle.std.proofs.Common.{◌≡◌, ⊎_elim, inl, inr, ℕ, Bool, true, false, List, [], ◌++◌, refl, sym, ap, ◌∙◌, subst, append-nil}
 use Rattle.std.specs.Prelude.{if◌then◌else◌, Option, Some, None, IfSome, Result, Ok, Err}
 use Rattle.std.specs.Option.{option_and_then}
 use Rattle.device_model.specs.declared.calls.Event.{Event}
@@ -24,14 +24,13 @@ use Rattle.trace_check.proofs.Puts.{writes-both, front-first, front-second}
 use Rattle.client_top.specs.declared.status.Status.{Status}
 use Rattle.client_top.specs.declared.status.Status.TheVariants.{Done, DiskFault, SourceFault, NoMemory, SinkFault, PowerOff, BadStore, Usage}
 use Rattle.client_top.specs.declared.status.Good.TheVariants.{Committed, Waiting, RolledBack, Shown, Admitted, Simulated}
-use Rattle.client_top.specs.Answers.{Words, row_of, end_of, how_of, text_of, reads, Due}
+use Rattle.client_top.specs.Answers.{row_of, end_of, how_of, text_of, reads, Due}
 use Rattle.client_top.specs.Boot.{Boot}
 use Rattle.client_top.specs.Did.{Did, Path, Shelf, Obeyed, Said, whole, cut}
 use Rattle.client_top.specs.Finds.{Request}
-use Rattle.client_top.specs.Looks.{Looked, read, bad, Begins, IsHead, Spares, Fails, Adds, written, written_by, status_by}
+use Rattle.client_top.specs.Looks.{Looked, read, bad, IsHeadOf, Spares, Fails, Adds, written, status_by}
 use Rattle.client_top.specs.Notes.{end_noted}
-use Rattle.client_top.specs.Steps.{Mounted}
-use Rattle.client_top.specs.Traced.{Traced, NotesIf, Notes, IsNoteOf, IsDue, DoesAs, as_asked, none, one, deed_noted, head_of, is_noted, noted_text, text_by, text_due, with_lists}
+use Rattle.client_top.specs.Traced.{Traced, Notes, IsNoteOf, IsDue, DoesAs, as_asked, looks, none, one, deed_noted, head_of, is_noted, noted_text, text_by, text_due, with_lists}
 use Rattle.flow_words.specs.Pieces.{End}
 use Rattle.client_top.proofs.Before.{Between, between, did-then, same-events, no-events, noted-reads, clash, one-answer}
 use Rattle.client_top.proofs.Formed.{formed}
@@ -74,7 +73,7 @@ lists-deed RebootNeeded head = refl
 lists-deed Halted head = refl
 
 -- what is written is nothing, or a note of the boot
-note-of : (deed : Deed) (found : Option NoteHead) (events : List Event) (status : Status) → IfSome found (λ head. IsHead deed head) → IsNoteOf deed events (end_noted (end_of status)) (written found events status)
+note-of : (deed : Deed) (found : Option NoteHead) (events : List Event) (status : Status) → IfSome found (λ head. IsHeadOf deed head) → IsNoteOf deed events (end_noted (end_of status)) (written found events status)
 note-of deed None events status is = none
 note-of deed (Some head) events status is = by (is_noted status) (has_text full events e) refl
   where
@@ -140,7 +139,7 @@ module _ (asked : Request) (d : Deed) (noted : deed_noted true asked.command ≡
   no-area = told-area disk told (area_of disk) refl
 
   -- the store and the tree were looked at
-  due-read : (from : Option Db) (status : Status) (events : List Event) (c : Db) (found : Option NoteHead) → IfFull IsRight c → IfSome (area_of disk) (λ a. Stands a c) → found ≡ head_of d asked.site t c → IfSome found (λ head. IsHead d head)
+  due-read : (from : Option Db) (status : Status) (events : List Event) (c : Db) (found : Option NoteHead) → IfFull IsRight c → IfSome (area_of disk) (λ a. Stands a c) → found ≡ head_of d asked.site t c → IfSome found (λ head. IsHeadOf d head)
       → Due asked from (area_of disk) status → IfSome from (λ x. IfFull IsRight x × IfSome (area_of disk) (λ a. Stands a x)) → ((x : Db) → from ≡ Some x → (y : Db) × Boot asked x events (end_of status) y)
       → written found events status ≡ text_due d asked.site t from events status
   due-read None status events c found right stands is head due reads boot =
@@ -148,9 +147,9 @@ module _ (asked : Request) (d : Deed) (noted : deed_noted true asked.command ≡
   due-read (Some x) status events c found right stands is head due reads boot =
       let same : c ≡ x = one-db (area_of disk) c x no-area stands reads.1 in
       ap (λ (f : Option NoteHead). written f events status) (is ∙ ap (head_of d asked.site t) same)
-      ∙ by (head_of d asked.site t x) refl (subst (λ (f : Option NoteHead). IfSome f (λ head. IsHead d head)) (is ∙ ap (head_of d asked.site t) same) head)
+      ∙ by (head_of d asked.site t x) refl (subst (λ (f : Option NoteHead). IfSome f (λ head. IsHeadOf d head)) (is ∙ ap (head_of d asked.site t) same) head)
     where
-      by : (f : Option NoteHead) → head_of d asked.site t x ≡ f → IfSome f (λ head. IsHead d head) → written f events status ≡ text_by f events status
+      by : (f : Option NoteHead) → head_of d asked.site t x ≡ f → IfSome f (λ head. IsHeadOf d head) → written f events status ≡ text_by f events status
       by None h is_head = refl
       by (Some one_head) h is_head = written-due one_head events status (λ due_here. formed asked t content x reads.0 d noted one_head is_head h status due_here (boot x refl).1)
 
@@ -177,7 +176,7 @@ module _ (asked : Request) (d : Deed) (noted : deed_noted true asked.command ≡
       did.answer.due did.answer.read (path-boot asked from did.events (end_of status) did.database.path))
   due-by mid found (bad offset wrote adds b) told (Told t) is = due-is status _ _ (due-bad asked d noted t is old.disk told from status did.events offset b.fault did.answer.read)
 
-  head-of : (mid : State) (found : Option NoteHead) → Looked d asked.site asked.content old mid found → IfSome found (λ head. IsHead d head)
+  head-of : (mid : State) (found : Option NoteHead) → Looked d asked.site asked.content old mid found → IfSome found (λ head. IsHeadOf d head)
   head-of mid found (read store m right begins) = begins.head
   head-of mid found (bad offset wrote adds b) = tt
 
@@ -241,6 +240,21 @@ plain {meant} {text} {before} {behind} {result} said = subst (λ (l : List ℕ).
 
 pub traced-none : {asked : Request} {old new : State} {shelf shelf' : Shelf} {before behind : Written} {result : Status} → Obeyed asked old new shelf shelf' before behind result → Traced None asked old new shelf shelf' before behind result
 traced-none {asked} obeyed = record { from = obeyed.from; meant = obeyed.meant; note = []; done = asked; does = as_asked; did = obeyed.did; notes = refl; said = plain obeyed.said }
+
+not-looks : {asked done : Request} {from : Option Db} {status : Status} → DoesAs None asked from status done → done ≡ asked
+not-looks as_asked = refl
+not-looks (looks c h is busy source) = absurd (none-some h)
+  where
+    none-some : {x : Deed} → None ≡ Some x → ⊥
+    none-some h = cc
+
+pub untraced : {asked : Request} {old new : State} {shelf shelf' : Shelf} {before behind : Written} {result : Status} → Traced None asked old new shelf shelf' before behind result → Obeyed asked old new shelf shelf' before behind result
+untraced {asked} {old} {new} {shelf} {shelf'} {before} {behind} {result} t = record {
+  from = t.from;
+  meant = t.meant;
+  did = subst (λ (r : Request). Did r t.from t.meant old new shelf shelf') (not-looks t.does) t.did;
+  said = subst (λ (l : List ℕ). Said t.meant l before behind result) (ap (λ (l : List ℕ). text_of asked.command t.from t.meant ++ l) t.notes ∙ append-nil (text_of asked.command t.from t.meant)) t.said;
+}
 
 module _ (asked : Request) (d : Deed) (old new : State) (shelf shelf' : Shelf) (before behind : Written) (status : Status) (fails : Fails d asked status old new shelf shelf') where
   no-note : (t : Tree) → IsDue status (text_due d asked.site t fails.from fails.did.events status) []

@@ -1,5 +1,5 @@
 -- What is found before a boot that is noted, and what is written behind it.
-use Rattle.std.specs.Prelude.{◌≡◌, ◌≤◌, ◌⊎◌, ℕ, Bool, true, false, if◌then◌else◌, List, [], length, Option, Some, None, IfSome, Result, Ok, Err, ⊤}
+use Rattle.std.specs.Prelude.{◌≡◌, ◌≤◌, ◌⊎◌, ℕ, false, if◌then◌else◌, List, [], length, Option, Some, None, IfSome, Result, Ok, Err, ⊤}
 use Rattle.device_model.specs.declared.calls.Event.{Event}
 use Rattle.device_model.specs.State.{State}
 use Rattle.device_model.specs.How.{Through}
@@ -34,7 +34,7 @@ use Rattle.client_top.specs.Traced.{DoesAs, head_of, is_noted, with_lists}
 -- ---- before it
 
 -- a note of this deed; that of an install has as many payload types as there may be
-pub record IsHead (deed : Deed) (head : NoteHead) : Type 0 where
+pub record IsHeadOf (deed : Deed) (head : NoteHead) : Type 0 where
   pub of_deed : head.deed ≡ deed
   pub some : deed ≡ Install → 1 ≤ length head.kinds
   pub few : deed ≡ Install → length head.kinds ≤ MOST_KINDS
@@ -42,7 +42,7 @@ pub record IsHead (deed : Deed) (head : NoteHead) : Type 0 where
 -- the note begins so over this database
 pub record Begins (deed : Deed) (site : Site) (content : Content) (c : Db) (found : Option NoteHead) : Type 0 where
   pub told : When content (λ t. found ≡ head_of deed site t c)
-  pub head : IfSome found (λ head. IsHead deed head)
+  pub head : IfSome found (λ head. IsHeadOf deed head)
 
 -- how a note begins by a tree, or why that can't be said
 abbrev pub Plans : Site → Content → Db → Result (Option NoteHead) Status → Type 0

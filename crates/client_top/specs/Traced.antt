@@ -1,5 +1,5 @@
 -- What a command does whose boot is noted: what it does without, and behind its text the note of the boot.
-use Rattle.std.specs.Prelude.{◌≡◌, ◌≢◌, ◌⊎◌, ℕ, Bool, true, false, if◌then◌else◌, List, [], ◌++◌, Option, Some, None, Result, Ok, Err, ⊤}
+use Rattle.std.specs.Prelude.{◌≡◌, ◌≢◌, ◌⊎◌, ℕ, Bool, true, false, if◌then◌else◌, List, [], ◌++◌, Option, Some, None, Result, Ok, Err}
 use Rattle.std.specs.Option.{option_and_then}
 use Rattle.device_model.specs.declared.calls.Event.{Event}
 use Rattle.device_model.specs.Disk.{Disk, IsTold}
@@ -11,7 +11,6 @@ use Rattle.admit.specs.Admit.{head_plan_of}
 use Rattle.admit.specs.declared.admitted.Admitted.{Admitted}
 use Rattle.admit.specs.declared.refusal.Refusal.{Refusal}
 use Rattle.flow_table.specs.declared.position.State.TheVariants.{Idle}
-use Rattle.flow_words.specs.Pieces.{End}
 use Rattle.record_codec.specs.declared.entry.Db.{Db}
 use Rattle.record_codec.specs.declared.entry.Db.TheVariants.{Empty, Full}
 use Rattle.record_codec.specs.Held.{held, position_of}

@@ -23,7 +23,9 @@ ghost use Rattle.trace_check.specs.Follows.{Did as MayDo};
 ghost use Rattle.client_top.specs.Finds.{Request, Found, Answers, Starts, finds};
 ghost use Rattle.client_top.specs.Boot.{Boot, Fits};
 ghost use Rattle.client_top.specs.Answers.{row_of, end_of, deploys};
-ghost use Rattle.client_top.specs.Did.{Did, Shelf, prepares};
+ghost use Rattle.io_model.specs.Sink.{Written};
+ghost use Rattle.client_top.specs.Did.{Did, Obeyed, Shelf, prepares};
+ghost use Rattle.client_top.specs.Traced.{Traced};
 ghost use Rattle.client_top.specs.Notes.{end_noted};
 ghost use Rattle.client_top.specs.NoteHeads.{IsHead};
 ghost use Rattle.client_top.specs.Promises.{IsUntied, Replies, Calm, Fulfils, IsOver, IsWell, Holds, TellsHeld, IsGiven, answer_for};
@@ -135,6 +137,13 @@ pub fn notes_tell_of_boots()
     ensures { (asked : Request) (word : Word) (c d : Db) (events : List Event) (end : Option End) (head : NoteHead)
         → asked.command ≡ Ok word → Boot asked c events end d → IsHead asked.site word c end d head
         → MayDo head events (end_noted end) (position_of d) }
+{}
+
+/// Without a note a command does what it does, and no more.
+pub fn nothing_else_is_traced()
+    ensures { (asked : Request) (old new : State) (source source_after : Shelf) (before behind : Written) (status : Status)
+        → Traced None asked old new source source_after before behind status
+        → Obeyed asked old new source source_after before behind status }
 {}
 
 /// Worked answers.

@@ -1,18 +1,18 @@
 //! All that the words of the program may ask for.
 
 ghost use Rattle.std.specs.Prelude.{◌≡◌, ◌≤◌, ◌++◌, ℕ, true, [], Ok, codes};
-ghost use Rattle.client_words.specs.Forms.{command_of};
+ghost use Rattle.client_words.specs.Forms.{command_of, traced_of};
 ghost use Rattle.client_words.specs.declared.command.Command.TheVariants.{Simulate};
 ghost use Rattle.client_words.specs.declared.command.TheConstants.{MOST_ROUNDS};
 ghost use Rattle.client_top.specs.Asked.{asked_at, command_word};
-ghost use Rattle.client_top.specs.Did.{Obeyed};
+ghost use Rattle.client_top.specs.Traced.{Traced, deed_noted};
 ghost use Rattle.lab.specs.Top.{IsSimulation, SimulatedTo, counts_text};
 
 use crate::counts::Counts;
 use crate::play::simulate;
-use client_top::{Good, Status, run};
+use client_top::{Good, Status, run_traced};
 use client_words::{Command, read_words};
-use device_model::{Device, ROOM};
+use device_model::{ROOM, Told};
 use io_model::{Line, Sink, Source};
 use script_names::Site;
 use std::alloc::Global;
@@ -55,9 +55,10 @@ fn tell_simulated<O: Sink>(alloc: Global, seed: u64, rounds: u32, out: &mut O) -
 }
 
 /// Does what the words say, and tells it to the sink: simulates for `simulate`, which leaves the device and the source as they
-/// are, and else does what `run` does. `site` is the device's own type and scripts, `source` the tree that the words name.
+/// are, and else does what `run_traced` does: what the words say, and where they ask for a trace the note of this boot behind its
+/// text. `site` is the device's own type and scripts, `source` the tree that the words name.
 /// Conditions: the device is on, its journal is empty, and it has room for `ROOM` events.
-pub fn top<S: Source, O: Sink, D: Device>(
+pub fn top<S: Source, O: Sink, D: Told>(
     alloc: Global,
     words: &[String],
     site: &Site,
@@ -71,7 +72,7 @@ pub fn top<S: Source, O: Sink, D: Device>(
     ensures plan { D.plan device.new ≡ D.plan device.old }
     ensures tree { S.content source.new ≡ S.content source.old }
     ensures source { S.plan source.new ≡ S.plan source.old }
-    ensures obeyed { (IsSimulation (command_of words.now) → ⊥) → Obeyed (record { command = asked_at (command_word words.now) (command_of words.now); site = site.now; content = S.content source.old }) (D.means device.old) (D.means device.new) (record { faults = S.faults source.old; given = S.given source.old }) (record { faults = S.faults source.new; given = S.given source.new }) (O.means out.old) (O.means out.new) result }
+    ensures traced { (IsSimulation (command_of words.now) → ⊥) → Traced (deed_noted (traced_of words.now) (asked_at (command_word words.now) (command_of words.now))) (record { command = asked_at (command_word words.now) (command_of words.now); site = site.now; content = S.content source.old }) (D.means device.old) (D.means device.new) (record { faults = S.faults source.old; given = S.given source.old }) (record { faults = S.faults source.new; given = S.given source.new }) (O.means out.old) (O.means out.new) result }
     ensures simulated { (seed rounds : ℕ) → command_of words.now ≡ Ok (Simulate seed rounds) → SimulatedTo seed rounds (O.means out.old) (O.means out.new) result }
     ensures device { IsSimulation (command_of words.now) → D.means device.new ≡ D.means device.old }
     ensures faults { IsSimulation (command_of words.now) → S.faults source.new ≡ S.faults source.old }
@@ -79,6 +80,6 @@ pub fn top<S: Source, O: Sink, D: Device>(
 {
     match read_words(words) {
         Ok(Command::Simulate { seed, rounds }) => tell_simulated(alloc, seed, rounds, out),
-        _ => run(alloc, words, site, source, out, device),
+        _ => run_traced(alloc, words, site, source, out, device),
     }
 }

@@ -1,5 +1,5 @@
-use Rattle.std.proofs.Common.{◌≡◌, List, sym, subst}
-use Rattle.std.specs.Prelude.{Option, Some, None, Result}
+use Rattle.std.proofs.Common.{List, sym, subst}
+use Rattle.std.specs.Prelude.{Option, Some, Result}
 use Rattle.device_model.specs.declared.calls.Event.{Event}
 use Rattle.io_model.specs.declared.sink.SinkFault.{SinkFault as Fault}
 use Rattle.trace_check.specs.declared.note.NoteHead.{NoteHead}

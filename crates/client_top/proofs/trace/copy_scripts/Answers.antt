@@ -1,4 +1,4 @@
-use Rattle.std.proofs.Common.{◌≡◌, ℕ, List, length, take, sym, ap, ◌∙◌, subst}
+use Rattle.std.proofs.Common.{ℕ, List, length, take, sym, ap, ◌∙◌, subst}
 use Rattle.std.specs.Prelude.{◌<◌, IsTrue, slice_index_or}
 use Rattle.upd_text.specs.Order.{is_below}
 use Rattle.script_names.specs.Scripts.{last_script}

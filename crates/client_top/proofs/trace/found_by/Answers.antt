@@ -1,5 +1,5 @@
-use Rattle.std.proofs.Common.{◌≡◌, refl, sym, ap, ◌∙◌, subst}
-use Rattle.std.specs.Prelude.{Some, true}
+use Rattle.std.proofs.Common.{refl, sym, ap, ◌∙◌, subst}
+use Rattle.std.specs.Prelude.{Some}
 use Rattle.io_model.specs.Source.{Content, When}
 use Rattle.admit.specs.Given.{SparesPayloads}
 use Rattle.record_codec.specs.declared.entry.Db.{Db}
@@ -7,7 +7,7 @@ use Rattle.script_names.specs.declared.site.Site.{Site}
 use Rattle.trace_check.specs.declared.note.Deed.{Deed}
 use Rattle.client_top.specs.Did.{Shelf}
 use Rattle.client_top.specs.Looks.{Looks, Plans}
-use Rattle.client_top.specs.Traced.{deed_noted, head_held}
+use Rattle.client_top.specs.Traced.{head_held}
 use Rattle.client_top.proofs.Heads.{planned-looks, held-looks, held-fails}
 use Rattle.client_top.proofs.trace.found_by.Goals as goal
 

@@ -1,5 +1,5 @@
-use Rattle.std.proofs.Common.{◌≡◌, ℕ, refl, sym, ap, ◌∙◌, subst}
-use Rattle.std.specs.Prelude.{Option, None, Bool, Ok}
+use Rattle.std.proofs.Common.{◌≡◌, ℕ, sym, ap, ◌∙◌, subst}
+use Rattle.std.specs.Prelude.{Option, None, Bool}
 use Rattle.trace_check.specs.declared.note.Deed.{Deed}
 use Rattle.client_words.specs.Forms.{command_of, traced_of}
 use Rattle.client_top.specs.Answers.{Words}

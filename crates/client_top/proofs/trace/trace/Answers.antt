@@ -1,8 +1,5 @@
-use Rattle.std.proofs.Common.{◌≡◌, refl, sym, ◌∙◌, subst, arith}
-use Rattle.std.specs.Prelude.{◌≤◌, Some, true}
-use Rattle.device_model.specs.State.{State}
+use Rattle.std.proofs.Common.{refl, subst, arith}
 use Rattle.io_model.specs.Source.{Content}
-use Rattle.client_top.specs.declared.status.Status.{Status}
 use Rattle.client_top.specs.Did.{Shelf, Obeyed}
 use Rattle.client_top.specs.Finds.{Request}
 use Rattle.client_top.proofs.Before.{between, still-on}
