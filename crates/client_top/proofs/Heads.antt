@@ -65,15 +65,14 @@ begins-held Rollback site (Told t) c not = refl
 
 module _ (asked : Request) (d : Deed) (noted : deed_noted true asked.command ≡ Some d) (store : Kept) (old mid : State) (mounted : Mounted store old mid) (right : IfFull IsRight store.db) (shelf : Shelf) where
   pub held-looks : (d ≡ Install → ⊥) → (head : NoteHead) → head ≡ head_held d asked.site store.db → Looks d asked old mid shelf shelf (Ok (Some head))
-  held-looks not head is =
-      (
-        subst (λ (h : NoteHead). Looked d asked.site asked.content old mid (Some h)) (sym is)
-            (read store mounted right (record {
-              told = begins-held d asked.site asked.content store.db not;
-              head = record { of_deed = held-deed d asked.site store.db; some = λ k. absurd (not k); few = λ k. absurd (not k) };
-            })),
-        spares-same d asked.content shelf,
-      )
+  held-looks not head is = (
+    subst (λ (h : NoteHead). Looked d asked.site asked.content old mid (Some h)) (sym is)
+        (read store mounted right (record {
+          told = begins-held d asked.site asked.content store.db not;
+          head = record { of_deed = held-deed d asked.site store.db; some = λ k. absurd (not k); few = λ k. absurd (not k) };
+        })),
+    spares-same d asked.content shelf,
+  )
 
   -- memory was wanting
   wanting : (shelf' : Shelf) → shelf'.faults ≡ shelf.faults → Reads (weighs asked.command) [] asked.content shelf.given shelf'.given → Fails d asked NoMemory old mid shelf shelf'

@@ -79,8 +79,10 @@ note-of deed (Some head) events status is = by (is_noted status) (has_text full 
   where
     e : NoteEnd
     e = end_noted (end_of status)
+
     full : NoteHead
     full = with_lists e head
+
     by : (a b : Bool) → has_text full events e ≡ b → IsNoteOf deed events e (if a then (if b then note_text full events e else []) else [])
     by true true has = one full (lists-deed e head ∙ is.of_deed) has
     by true false has = none
@@ -92,8 +94,10 @@ written-due head events status has = by (is_noted status) refl
   where
     e : NoteEnd
     e = end_noted (end_of status)
+
     full : NoteHead
     full = with_lists e head
+
     by : (a : Bool) → is_noted status ≡ a → (if a then (if has_text full events e then note_text full events e else []) else []) ≡ (if a then noted_text head events e else [])
     by true is = ap (λ (b : Bool). if b then note_text full events e else []) (has is)
     by false is = refl
@@ -200,6 +204,7 @@ said-by meant text note before out behind found journal status result same (cut 
   where
     front : WritesFront before (text ++ note) behind
     front = subst (λ (w : Written). WritesFront before (text ++ note) w) (sym (adds.still refl)) (front-first before out text note f)
+
     by : (r : Result (Unit {0}) Fault) → result ≡ status_by r SinkFault → Said meant (text ++ note) before behind result
     by (Ok u) result_is = subst (λ (s : Status). Said meant (text ++ note) before behind s) (sym result_is) (cut front)
     by (Err e) result_is = subst (λ (s : Status). Said meant (text ++ note) before behind s) (sym result_is) (cut front)
