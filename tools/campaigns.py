@@ -1,7 +1,7 @@
 #!/usr/bin/env python3
-"""Writes the notes of boots that lose their power or meet a fault, and lets `trace_cli` judge them. Run it by hand.
+"""Writes the notes of boots that lose their power or meet a fault, and lets `trace_cli` judge them. Part of the gate by transcripts.sh.
 
-usage: bench/campaigns.py SCENARIO_CLI TRACE_CLI ROWS..
+usage: tools/campaigns.py SCENARIO_CLI TRACE_CLI ROWS..
 Each row of a file of rows is played by SCENARIO_CLI once for each moment that its lines `each` name, with other commands behind its
 own. What is noted of each boot has the position that the disk stood at before it. All notes of a row have to be a path, and those
 without a boot that changed the database none. The last line counts both.

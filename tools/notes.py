@@ -1,10 +1,11 @@
 #!/usr/bin/env python3
 """Makes boots of the built client with `--trace`, whose modules and scripts do as a seed draws, fail, and kill the client. What is noted of
-them has to be `path` for trace_cli, and with one event changed `broken` there. Run it by hand after the gate, which builds the programs.
+them has to be `path` for trace_cli, and with one event changed `broken` there. Part of the gate by transcripts.sh, which makes few boots; by
+hand it makes 2,000.
 
-usage: bench/notes.py [BOOTS [CHANGES [SEED]]]
+usage: tools/notes.py [BOOTS [CHANGES [SEED]]]
 A boot that is killed writes no note: one is put in its place that is cut off, with the events that its children wrote down. Before it a
-look (an install of a tree whose payload has another sum) tells where the database stands. The last line counts what was seen.
+look (an install of a tree whose payload has another sum) tells where the database stands. The last line counts what was seen. PROGRAMS in the environment is a folder with the programs.
 """
 import hashlib
 import os
@@ -15,7 +16,8 @@ import sys
 import tempfile
 
 TOP = os.path.dirname(os.path.dirname(os.path.abspath(__file__)))
-PROGRAMS = {name: os.path.join(TOP, f"crates/{name}/out/{name}") for name in ("client_cli", "trace_cli", "tree_cli")}
+PLACE = os.environ.get("PROGRAMS", os.path.join(TOP, "crates/{0}/out"))
+PROGRAMS = {name: os.path.join(PLACE.format(name), name) for name in ("client_cli", "trace_cli", "tree_cli")}
 STATES = ["Download", "ArtifactInstall", "ArtifactReboot", "ArtifactVerifyReboot", "ArtifactCommit", "ArtifactRollback",
           "ArtifactRollbackReboot", "ArtifactVerifyRollbackReboot", "ArtifactFailure", "Cleanup"]
 COMMANDS = [("install", ["install", "tree"])] * 3 + [("resume", ["resume"])] * 3 + [("commit", ["commit"]), ("rollback", ["rollback"])]
