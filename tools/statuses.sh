@@ -303,10 +303,10 @@ ends 13 'an install while one is in progress, with its note' client_notes instal
 notes 'not now 1 Reboot'
 ends 0 'a stop before the commit, with its note' client_notes resume --stop-before ArtifactCommit
 notes waiting
-ends 0 'a rollback, with its note' client_notes rollback
-cp out first
-if [ "$(head -n 1 first)" = 'reboot needed' ]; then title='a rollback'; fi
-notes "$(head -n 1 first)"
+ends 4 'a rollback that needs a reboot, with its note' client_notes rollback
+notes 'reboot needed'
+ends 14 'the boot behind it, with its note' client_notes resume
+notes 'not installed: rolled back'
 cp notes/trace several
 ends 0 'an answer without a note' client --data d --trace show-artifact
 says unknown
@@ -324,6 +324,12 @@ ends 8 'a note that is not written' sh -c '"$1" --data d --trace resume > /dev/f
 sed '/^module 0 ArtifactInstall$/,/^exit 0$/d' several > notes/trace
 ends 3 'a note without its install' trace_cli notes
 says 'broken 0 4'
+sed '/^module 0 ArtifactCommit$/,/^exit 0$/d' whole > notes/trace
+ends 3 'a note without its commit' trace_cli notes
+says 'broken 0 8'
+{ cat whole; sed 's/^from .*/from Idle Committed 0 No 5/' whole; } > notes/trace
+ends 0 'two installs in a row' trace_cli notes
+says path
 
 # The signature of a manifest, by the key, the manifest and the signature of the program's stored run.
 signed_cli() {
