@@ -28,7 +28,7 @@ use Rattle.client_top.specs.declared.status.Good.TheVariants.{Committed, Waiting
 use Rattle.client_top.specs.Answers.{Words, Basis, Wording, Slot, Store, Files, Course, DeviceCount, SourceCount, Free, row_of, end_of, how_of, source_count, weighs, reads, Rests}
 use Rattle.client_top.specs.Did.{Did, Shelf, StandsAlike, Leaves, LeadsTo, Reads}
 use Rattle.client_top.specs.Finds.{Request}
-use Rattle.client_top.specs.Looks.{Looked, read, bad, Spares}
+use Rattle.client_top.specs.Looks.{Looked, read, bad, OnlyLooks}
 use Rattle.client_top.specs.Steps.{Mounted}
 use Rattle.client_top.specs.Traced.{deed_noted}
 use Rattle.client_top.proofs.Mounts.{mounted-alike, same-alike}
@@ -146,14 +146,14 @@ module _ (old mid : State) (b : Between old mid) where
 some-deed : {a b : Deed} → Some a ≡ Some b → b ≡ a
 some-deed h = cc
 
-spares-of : {a b : Deed} (content : Content) (old mid : Shelf) → Some a ≡ Some b → Spares b content old mid → Spares a content old mid
-spares-of content old mid h s = subst (λ (d : Deed). Spares d content old mid) (some-deed h) s
+spares-of : {a b : Deed} (content : Content) (old mid : Shelf) → Some a ≡ Some b → OnlyLooks b content old mid → OnlyLooks a content old mid
+spares-of content old mid h s = subst (λ (d : Deed). OnlyLooks d content old mid) (some-deed h) s
 
 -- a tree that wasn't looked into gave nothing
 nothing-read : (w : Words) (events : List Event) (content : Content) (old mid new : Shelf) → mid ≡ old → Reads (weighs w) events content mid.given new.given → Reads (weighs w) events content old.given new.given
 nothing-read w events content old mid new is h = subst (λ (s : Shelf). Reads (weighs w) events content s.given new.given) is h
 
-given-then : (d : Deed) (w : Words) (events : List Event) (content : Content) (old mid new : Shelf) → deed_noted true w ≡ Some d → Spares d content old mid → Reads (weighs w) events content mid.given new.given → Reads (weighs w) events content old.given new.given
+given-then : (d : Deed) (w : Words) (events : List Event) (content : Content) (old mid new : Shelf) → deed_noted true w ≡ Some d → OnlyLooks d content old mid → Reads (weighs w) events content mid.given new.given → Reads (weighs w) events content old.given new.given
 given-then d (Ok Install) events content old mid new h s r = reads_after (has_start events) content old.given mid.given new.given (spares-of content old mid h s).1 r
 given-then d (Ok Resume) events content old mid new h s r = nothing-read (Ok Resume) events content old mid new (spares-of content old mid h s) r
 given-then d (Ok ResumeStop) events content old mid new h s r = nothing-read (Ok ResumeStop) events content old mid new (spares-of content old mid h s) r
@@ -161,7 +161,7 @@ given-then d (Ok Commit) events content old mid new h s r = nothing-read (Ok Com
 given-then d (Ok Rollback) events content old mid new h s r = nothing-read (Ok Rollback) events content old mid new (spares-of content old mid h s) r
 given-then d w events content old mid new h s r = absurd cc
 
-spared-faults : (d : Deed) (content : Content) (old mid : Shelf) → Spares d content old mid → mid.faults ≡ old.faults
+spared-faults : (d : Deed) (content : Content) (old mid : Shelf) → OnlyLooks d content old mid → mid.faults ≡ old.faults
 spared-faults deed.Install content old mid s = s.0
 spared-faults deed.Resume content old mid s = ap (λ (x : Shelf). x.faults) s
 spared-faults deed.ResumeStop content old mid s = ap (λ (x : Shelf). x.faults) s
@@ -195,7 +195,7 @@ no-wording status w h whose is = absurd cc
 -- ---- the whole
 
 module _ (asked : Request) (d : Deed) (noted : deed_noted true asked.command ≡ Some d) (old mid new : State) (b : Between old mid)
-    (shelf0 shelf1 shelf2 : Shelf) (spares : Spares d asked.content shelf0 shelf1) where
+    (shelf0 shelf1 shelf2 : Shelf) (spares : OnlyLooks d asked.content shelf0 shelf1) where
   pub did-then : (from : Option Db) (status : Status) → Did asked from status mid new shelf1 shelf2 → Did asked from status old new shelf0 shelf2
   did-then from status did =
       let due = did.answer.due in

@@ -29,7 +29,7 @@ use Rattle.client_top.specs.Answers.{Words, opens, weighs}
 use Rattle.client_top.specs.Boot.{nothing}
 use Rattle.client_top.specs.Did.{Shelf, Reads}
 use Rattle.client_top.specs.Finds.{Request}
-use Rattle.client_top.specs.Looks.{Looked, read, bad, Looks, Plans, Spares, Fails, unmounted}
+use Rattle.client_top.specs.Looks.{Looked, read, bad, Looks, PlansNote, OnlyLooks, FailsLook, unmounted}
 use Rattle.client_top.specs.Steps.{Mounted, Tells, not_mounted, count_after}
 use Rattle.client_top.specs.Traced.{as_asked, looks, deed_noted, head_held, head_of, is_noted}
 use Rattle.client_top.proofs.Before.{Between, noted-reads}
@@ -42,7 +42,7 @@ same-room old mid b = omega (arith, room-through [] old mid b.wrote.passed)
 
 -- ---- nothing was read
 
-pub spares-same : (d : Deed) (content : Content) (shelf : Shelf) → Spares d content shelf shelf
+pub spares-same : (d : Deed) (content : Content) (shelf : Shelf) → OnlyLooks d content shelf shelf
 spares-same Install content shelf = (refl, spares_none content shelf.given shelf.given refl)
 spares-same Resume content shelf = refl
 spares-same ResumeStop content shelf = refl
@@ -75,7 +75,7 @@ module _ (asked : Request) (d : Deed) (noted : deed_noted true asked.command ≡
   )
 
   -- memory was wanting
-  wanting : (shelf' : Shelf) → shelf'.faults ≡ shelf.faults → Reads (weighs asked.command) [] asked.content shelf.given shelf'.given → Fails d asked NoMemory old mid shelf shelf'
+  wanting : (shelf' : Shelf) → shelf'.faults ≡ shelf.faults → Reads (weighs asked.command) [] asked.content shelf.given shelf'.given → FailsLook d asked NoMemory old mid shelf shelf'
   wanting shelf' faults given = record {
     from = Some store.db;
     done = asked;
@@ -85,7 +85,7 @@ module _ (asked : Request) (d : Deed) (noted : deed_noted true asked.command ≡
     unnoted = inl refl;
   }
 
-  pub held-fails : Fails d asked NoMemory old mid shelf shelf
+  pub held-fails : FailsLook d asked NoMemory old mid shelf shelf
   held-fails = wanting shelf refl (reads-nothing (weighs asked.command) asked.content shelf.given)
 
 -- ---- by the tree
@@ -111,7 +111,7 @@ module _ (asked : Request) (noted : deed_noted true asked.command ≡ Some Insta
   spared = subst (λ (b : Bool). Reads b [] asked.content shelf.given shelf'.given) (sym weighing) (reads_none asked.content shelf.given shelf'.given spares)
 
   -- the tree couldn't be read: a check answers so whatever stands, an install where nothing is in progress
-  unreadable : shelf'.faults ≡ count_after {A = Option NoteHead} (Err SourceFault) shelf.faults → Fails Install asked SourceFault old mid shelf shelf'
+  unreadable : shelf'.faults ≡ count_after {A = Option NoteHead} (Err SourceFault) shelf.faults → FailsLook Install asked SourceFault old mid shelf shelf'
   unreadable faults = ⊎_elim
       (λ idle. record {
         from = Some store.db;
@@ -133,7 +133,7 @@ module _ (asked : Request) (noted : deed_noted true asked.command ≡ Some Insta
       })
       (idle-or-not (position_of store.db).state)
 
-  pub planned-looks : (result : Result (Option NoteHead) Status) → Plans asked.site asked.content store.db result → shelf'.faults ≡ count_after result shelf.faults → Looks Install asked old mid shelf shelf' result
+  pub planned-looks : (result : Result (Option NoteHead) Status) → PlansNote asked.site asked.content store.db result → shelf'.faults ≡ count_after result shelf.faults → Looks Install asked old mid shelf shelf' result
   planned-looks (Ok found) plans faults = (read store mounted right plans, (faults, spares))
   planned-looks (Err SourceFault) plans faults = unreadable faults
   planned-looks (Err NoMemory) plans faults = wanting asked Install noted store old mid mounted right shelf shelf' faults spared
@@ -154,7 +154,7 @@ module _ (asked : Request) (noted : deed_noted true asked.command ≡ Some Insta
 -- ---- nothing was mounted
 
 module _ (asked : Request) (d : Deed) (noted : deed_noted true asked.command ≡ Some d) (old mid : State) (shelf : Shelf) where
-  fails-by : (fault : MountFault) → is_noted (not_mounted fault) ≡ false → Tells asked (not_mounted fault) old mid shelf shelf → Fails d asked (not_mounted fault) old mid shelf shelf
+  fails-by : (fault : MountFault) → is_noted (not_mounted fault) ≡ false → Tells asked (not_mounted fault) old mid shelf shelf → FailsLook d asked (not_mounted fault) old mid shelf shelf
   fails-by fault stopped tells = record { from = tells.from; done = asked; does = as_asked; did = tells.did; text = tells.text; unnoted = inl stopped }
 
   pub unmounted-looks : (fault : MountFault) → Wrote (mount_how {S = Kept} (Err fault)) old mid → AddsNoDb old.disk mid.disk → MountEnds old (Err fault) mid → Looks d asked old mid shelf shelf (unmounted fault)

@@ -28,9 +28,9 @@ use Rattle.client_top.specs.Answers.{row_of, end_of, how_of, text_of, reads, Due
 use Rattle.client_top.specs.Boot.{Boot}
 use Rattle.client_top.specs.Did.{Did, Path, Shelf, Obeyed, Said, whole, cut}
 use Rattle.client_top.specs.Finds.{Request}
-use Rattle.client_top.specs.Looks.{Looked, read, bad, IsHeadOf, Spares, Fails, Adds, written, status_by}
+use Rattle.client_top.specs.Looks.{Looked, read, bad, IsHeadOf, OnlyLooks, FailsLook, AddsNote, written, status_by}
 use Rattle.client_top.specs.Notes.{end_noted}
-use Rattle.client_top.specs.Traced.{Traced, Notes, IsNoteOf, IsDue, DoesAs, as_asked, looks, none, one, deed_noted, head_of, is_noted, noted_text, text_by, text_due, with_lists}
+use Rattle.client_top.specs.Traced.{Traced, NotesBoot, IsNoteOf, IsDue, DoesAs, as_asked, looks, none, one, deed_noted, head_of, is_noted, noted_text, text_by, text_due, with_lists}
 use Rattle.flow_words.specs.Pieces.{End}
 use Rattle.client_top.proofs.Before.{Between, between, did-then, same-events, no-events, noted-reads, clash, one-answer}
 use Rattle.client_top.proofs.Formed.{formed}
@@ -184,13 +184,13 @@ module _ (asked : Request) (d : Deed) (noted : deed_noted true asked.command ≡
   head-of mid found (read store m right begins) = begins.head
   head-of mid found (bad offset wrote adds b) = tt
 
-  notes-by : (mid : State) (found : Option NoteHead) → Looked d asked.site asked.content old mid found → Notes d asked old.disk from did.events status (written found did.events status)
+  notes-by : (mid : State) (found : Option NoteHead) → Looked d asked.site asked.content old mid found → NotesBoot d asked old.disk from did.events status (written found did.events status)
   notes-by mid found looked = record {
     of_boot = note-of d found did.events status (head-of mid found looked);
     due = λ told. due-by mid found looked told asked.content refl;
   }
 
-said-by : (meant : Status) (text note : List ℕ) (before out behind : Written) (found : Option NoteHead) (journal : List Event) (status result : Status) → (status ≡ meant → written found journal status ≡ note) → Said meant text before out status → Adds (written found journal status) out status behind result → Said meant (text ++ note) before behind result
+said-by : (meant : Status) (text note : List ℕ) (before out behind : Written) (found : Option NoteHead) (journal : List Event) (status result : Status) → (status ≡ meant → written found journal status ≡ note) → Said meant text before out status → AddsNote (written found journal status) out status behind result → Said meant (text ++ note) before behind result
 said-by meant text note before out behind found journal status result same (whole w) adds = by adds.put adds.puts adds.is
   where
     by : (r : Result (Unit {0}) Fault) → Puts out (written found journal meant) r behind → result ≡ status_by r meant → Said meant (text ++ note) before behind result
@@ -210,8 +210,8 @@ said-by meant text note before out behind found journal status result same (cut 
     by (Err e) result_is = subst (λ (s : Status). Said meant (text ++ note) before behind s) (sym result_is) (cut front)
 
 module _ (asked : Request) (d : Deed) (noted : deed_noted true asked.command ≡ Some d) (old mid new : State) (found : Option NoteHead) (looked : Looked d asked.site asked.content old mid found)
-    (shelf0 shelf1 shelf2 : Shelf) (spares : Spares d asked.content shelf0 shelf1) (before out behind : Written) (status result : Status) (fresh : old.journal ≡ [])
-    (obeyed : Obeyed asked mid new shelf1 shelf2 before out status) (adds : Adds (written found new.journal status) out status behind result) where
+    (shelf0 shelf1 shelf2 : Shelf) (spares : OnlyLooks d asked.content shelf0 shelf1) (before out behind : Written) (status result : Status) (fresh : old.journal ≡ [])
+    (obeyed : Obeyed asked mid new shelf1 shelf2 before out status) (adds : AddsNote (written found new.journal status) out status behind result) where
   abbrev b : Between old mid
   b = between d asked.site asked.content old mid found looked
 
@@ -261,7 +261,7 @@ untraced {asked} {old} {new} {shelf} {shelf'} {before} {behind} {result} t = rec
   said = subst (λ (l : List ℕ). Said t.meant l before behind result) (ap (λ (l : List ℕ). text_of asked.command t.from t.meant ++ l) t.notes ∙ append-nil (text_of asked.command t.from t.meant)) t.said;
 }
 
-module _ (asked : Request) (d : Deed) (old new : State) (shelf shelf' : Shelf) (before behind : Written) (status : Status) (fails : Fails d asked status old new shelf shelf') where
+module _ (asked : Request) (d : Deed) (old new : State) (shelf shelf' : Shelf) (before behind : Written) (status : Status) (fails : FailsLook d asked status old new shelf shelf') where
   no-note : (t : Tree) → IsDue status (text_due d asked.site t fails.from fails.did.events status) []
   no-note t = ⊎_elim (λ h. due-is status _ [] (sym (undue (option_and_then (head_of d asked.site t) fails.from) h))) (λ h. subst (λ (s : Status). IsDue s (text_due d asked.site t fails.from fails.did.events s) []) (sym h) (inl refl)) fails.unnoted
     where
@@ -269,7 +269,7 @@ module _ (asked : Request) (d : Deed) (old new : State) (shelf shelf' : Shelf) (
       undue None h = refl
       undue (Some head) h = by-test (is_noted status) _ [] h
 
-  unnoted : Notes d asked old.disk fails.from fails.did.events status []
+  unnoted : NotesBoot d asked old.disk fails.from fails.did.events status []
   unnoted = record { of_boot = none; due = λ told. by asked.content }
     where
       by : (content : Content) → When content (λ t. IsDue status (text_due d asked.site t fails.from fails.did.events status) [])

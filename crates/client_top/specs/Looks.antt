@@ -40,29 +40,29 @@ pub record IsHeadOf (deed : Deed) (head : NoteHead) : Type 0 where
   pub few : deed ≡ Install → length head.kinds ≤ MOST_KINDS
 
 -- the note begins so over this database
-pub record Begins (deed : Deed) (site : Site) (content : Content) (c : Db) (found : Option NoteHead) : Type 0 where
+pub record BeginsNote (deed : Deed) (site : Site) (content : Content) (c : Db) (found : Option NoteHead) : Type 0 where
   pub told : When content (λ t. found ≡ head_of deed site t c)
   pub head : IfSome found (λ head. IsHeadOf deed head)
 
 -- how a note begins by a tree, or why that can't be said
-abbrev pub Plans : Site → Content → Db → Result (Option NoteHead) Status → Type 0
-Plans site content c (Ok found) = Begins Install site content c found
-Plans site content c (Err SourceFault) = ⊤
-Plans site content c (Err NoMemory) = ⊤
-Plans site content c (Err status) = ⊥
+abbrev pub PlansNote : Site → Content → Db → Result (Option NoteHead) Status → Type 0
+PlansNote site content c (Ok found) = BeginsNote Install site content c found
+PlansNote site content c (Err SourceFault) = ⊤
+PlansNote site content c (Err NoMemory) = ⊤
+PlansNote site content c (Err status) = ⊥
 
 -- no payload was read, and nothing failed; without a tree nothing was read at all
-abbrev pub Spares : Deed → Content → Shelf → Shelf → Type 0
-Spares Install content old new = (new.faults ≡ old.faults) × When content (λ t. SparesPayloads t old.given new.given)
-Spares deed content old new = new ≡ old
+abbrev pub OnlyLooks : Deed → Content → Shelf → Shelf → Type 0
+OnlyLooks Install content old new = (new.faults ≡ old.faults) × When content (λ t. SparesPayloads t old.given new.given)
+OnlyLooks deed content old new = new ≡ old
 
 -- the store was mounted, and the note begins so; or it is none
 pub data Looked (deed : Deed) (site : Site) (content : Content) (old new : State) : Option NoteHead → Type 0 where
-  read : {found : Option NoteHead} (store : Kept) → Mounted store old new → IfFull IsRight store.db → Begins deed site content store.db found → Looked deed site content old new found
+  read : {found : Option NoteHead} (store : Kept) → Mounted store old new → IfFull IsRight store.db → BeginsNote deed site content store.db found → Looked deed site content old new found
   bad : (offset : ℕ) → Wrote Through old new → AddsNoDb old.disk new.disk → IsBad offset old new → Looked deed site content old new None
 
 -- it couldn't be looked: this is answered, and no note is written
-pub record Fails (deed : Deed) (asked : Request) (status : Status) (old new : State) (shelf shelf' : Shelf) : Type 0 where
+pub record FailsLook (deed : Deed) (asked : Request) (status : Status) (old new : State) (shelf shelf' : Shelf) : Type 0 where
   pub from : Option Db
   pub done : Request
   pub does : DoesAs (Some deed) asked from status done
@@ -79,8 +79,8 @@ unmounted Wanting = Err NoMemory
 
 -- what the look finds, or what is answered
 abbrev pub Looks : Deed → Request → State → State → Shelf → Shelf → Result (Option NoteHead) Status → Type 0
-Looks deed asked old new shelf shelf' (Ok found) = Looked deed asked.site asked.content old new found × Spares deed asked.content shelf shelf'
-Looks deed asked old new shelf shelf' (Err status) = Fails deed asked status old new shelf shelf'
+Looks deed asked old new shelf shelf' (Ok found) = Looked deed asked.site asked.content old new found × OnlyLooks deed asked.content shelf shelf'
+Looks deed asked old new shelf shelf' (Err status) = FailsLook deed asked status old new shelf shelf'
 
 -- ---- behind it
 
@@ -98,7 +98,7 @@ status_by (Ok u) status = status
 status_by (Err e) status = SinkFault
 
 -- the note was written behind an answer, or the sink failed
-pub record Adds (text : List ℕ) (before : Written) (status : Status) (behind : Written) (result : Status) : Type 0 where
+pub record AddsNote (text : List ℕ) (before : Written) (status : Status) (behind : Written) (result : Status) : Type 0 where
   pub put : Result (Unit {0}) Fault
   pub puts : Puts before text put behind
   pub still : is_noted status ≡ false → behind ≡ before

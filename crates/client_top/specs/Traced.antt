@@ -101,14 +101,14 @@ pub data IsNoteOf (deed : Deed) (events : List Event) (e : NoteEnd) : List ℕ �
   one : (head : NoteHead) → head.deed ≡ deed → has_text head events e ≡ true → IsNoteOf deed events e (note_text head events e)
 
 -- The text behind the answer: of a disk and a tree that are told, the note that is due.
-pub record Notes (deed : Deed) (asked : Request) (disk : Option Disk) (from : Option Db) (events : List Event) (status : Status) (text : List ℕ) : Type 0 where
+pub record NotesBoot (deed : Deed) (asked : Request) (disk : Option Disk) (from : Option Db) (events : List Event) (status : Status) (text : List ℕ) : Type 0 where
   pub of_boot : IsNoteOf deed events (end_noted (end_of status)) text
   pub due : IsTold disk → When asked.content (λ t. IsDue status (text_due deed asked.site t from events status) text)
 
 -- of a boot that isn't noted there is none
 abbrev pub NotesIf : Option Deed → Request → Option Disk → Option Db → List Event → Status → List ℕ → Type 0
 NotesIf None asked disk from events status text = text ≡ []
-NotesIf (Some deed) asked disk from events status text = Notes deed asked disk from events status text
+NotesIf (Some deed) asked disk from events status text = NotesBoot deed asked disk from events status text
 
 -- ---- the whole
 

@@ -8,7 +8,7 @@ ghost use Rattle.client_words.specs.Forms.{command_of, traced_of};
 ghost use Rattle.client_top.specs.Answers.{end_of};
 ghost use Rattle.client_top.specs.Asked.{asked_at, command_word};
 ghost use Rattle.client_top.specs.Finds.{Request};
-ghost use Rattle.client_top.specs.Looks.{Adds, Looks, Plans, unmounted, written};
+ghost use Rattle.client_top.specs.Looks.{AddsNote, Looks, PlansNote, unmounted, written};
 ghost use Rattle.client_top.specs.Notes.{deed_of, end_noted};
 ghost use Rattle.client_top.specs.Steps.{Mounted, count_after};
 ghost use Rattle.device_model.specs.State.{State};
@@ -153,7 +153,7 @@ fn look_into<S: Source>(
     ensures source { S.plan source.new ≡ S.plan source.old }
     ensures counts { S.faults source.new ≡ count_after result (S.faults source.old) }
     ensures payloads { When (S.content source.old) (λ t. SparesPayloads t (S.given source.old) (S.given source.new)) }
-    ensures plans { Plans site.now (S.content source.old) db.now result }
+    ensures plans { PlansNote site.now (S.content source.old) db.now result }
 {
     let Ok(before) = db.held(alloc) else {
         return Err(Status::NoMemory);
@@ -253,7 +253,7 @@ fn add_note<O: Sink, D: Told>(
     out: &mut O,
     device: &D,
 ) -> Status
-    ensures { Adds (written head (D.means device.now).journal status) (O.means out.old) status (O.means out.new) result }
+    ensures { AddsNote (written head (D.means device.now).journal status) (O.means out.old) status (O.means out.new) result }
 {
     let Some(head) = head else {
         return status;

@@ -6,7 +6,7 @@ use Rattle.record_codec.specs.declared.entry.Db.{Db}
 use Rattle.script_names.specs.declared.site.Site.{Site}
 use Rattle.trace_check.specs.declared.note.Deed.{Deed}
 use Rattle.client_top.specs.Did.{Shelf}
-use Rattle.client_top.specs.Looks.{Looks, Plans}
+use Rattle.client_top.specs.Looks.{Looks, PlansNote}
 use Rattle.client_top.specs.Traced.{head_held}
 use Rattle.client_top.proofs.Heads.{planned-looks, held-looks, held-fails}
 use Rattle.client_top.proofs.trace.found_by.Goals as goal
@@ -17,9 +17,9 @@ returns-in-Install-clause-looks g c = λ asked old mid noted site content mounte
     let behind : Shelf = record { faults = g.S.Source.faults c.look_into.new.source; given = g.S.Source.given c.look_into.new.source } in
     let install = c.in-Install.is in
     let result = c.look_into.result in
-    let plans = subst (λ (d : Db). Plans c.args.site.now (g.S.Source.content c.args.source.now) d result) c.db.ensures.value c.look_into.ensures.plans in
-    let of_site = subst (λ (s : Site). Plans s (g.S.Source.content c.args.source.now) c.args.store.now.db result) (sym site) plans in
-    let of_content = subst (λ (x : Content). Plans asked.site x c.args.store.now.db result) (sym content) of_site in
+    let plans = subst (λ (d : Db). PlansNote c.args.site.now (g.S.Source.content c.args.source.now) d result) c.db.ensures.value c.look_into.ensures.plans in
+    let of_site = subst (λ (s : Site). PlansNote s (g.S.Source.content c.args.source.now) c.args.store.now.db result) (sym site) plans in
+    let of_content = subst (λ (x : Content). PlansNote asked.site x c.args.store.now.db result) (sym content) of_site in
     let spares = subst (λ (x : Content). When x (λ t. SparesPayloads t before.given behind.given)) (sym content) c.look_into.ensures.payloads in
     subst (λ (d : Deed). Looks d asked old mid before behind result) (sym install)
     (planned-looks asked (noted ∙ ap Some install) c.args.store.now old mid mounted c.db.ensures.right before behind spares result of_content c.look_into.ensures.counts)
