@@ -12,7 +12,7 @@ use Rattle.client_words.specs.declared.command.Command.TheVariants.{Simulate}
 use Rattle.client_words.specs.declared.command.TheConstants.{MOST_ROUNDS}
 use Rattle.client_words.specs.declared.command.UsageFault.{UsageFault}
 use Rattle.client_words.specs.declared.command.UsageFault.TheVariants.{UnknownCommand}
-use Rattle.client_words.specs.Forms.{Form, Ends, Word, Tree, Number, forms, number_below, behind, first_end, said_at_end, if_left, rest_said, wrong_word, command_said, data_said, begins_with_data, words_said, said_command, command_of}
+use Rattle.client_words.specs.Forms.{Form, Ends, Word, Tree, Number, forms, number_below, behind, first_end, said_at_end, if_left, rest_said, wrong_word, command_said, traced_said, is_trace, data_said, begins_with_data, words_said, said_command, command_of}
 
 abbrev FewRounds : Command → Type 0
 FewRounds (Simulate seed rounds) = rounds ≤ MOST_ROUNDS
@@ -88,13 +88,21 @@ command-few at (word ∷ words) =
     left-few (filter_map (behind at (string_bytes word)) forms) (at + 1) words (UnknownCommand at)
     (rest-few (at + 1) (filter_map (behind at (string_bytes word)) forms) words few)
 
+trace-few : (b : Bool) (at : ℕ) (word : String Global) (words : List (String Global)) → IfOk (said_command (if b then command_said (at + 1) words else command_said at (word ∷ words))) FewRounds
+trace-few true at word words = command-few (at + 1) words
+trace-few false at word words = command-few at (word ∷ words)
+
+traced-few : (at : ℕ) (words : List (String Global)) → IfOk (said_command (traced_said at words)) FewRounds
+traced-few at [] = tt
+traced-few at (word ∷ words) = trace-few (is_trace word) at word words
+
 data-few : (words : List (String Global)) → IfOk (said_command (data_said words)) FewRounds
 data-few [] = tt
-data-few (dir ∷ words) = command-few 2 words
+data-few (dir ∷ words) = traced-few 2 words
 
-by-data : (b : Bool) (words : List (String Global)) → IfOk (said_command (if b then data_said (drop 1 words) else command_said 0 words)) FewRounds
+by-data : (b : Bool) (words : List (String Global)) → IfOk (said_command (if b then data_said (drop 1 words) else traced_said 0 words)) FewRounds
 by-data true words = data-few (drop 1 words)
-by-data false words = command-few 0 words
+by-data false words = traced-few 0 words
 
 words-few : (words : List (String Global)) → IfOk (said_command (words_said words)) FewRounds
 unfolding words_said
