@@ -70,9 +70,9 @@ def make_tree(folder, name, has_script):
     words = [PROGRAMS["tree_cli"], "files", name, "release", "device", KIND, "-"]
     need(subprocess.run(words, cwd=folder, check=False).returncode == 0, f"tree_cli {name}")
     if has_script:
-        write(f"{folder}/{name}/scripts/{BROUGHT}", SCRIPT)
+        write(f"{folder}/{name}/header/scripts/{BROUGHT}", SCRIPT)
         with open(f"{folder}/{name}/manifest", "a") as manifest:
-            manifest.write(f"{hashlib.sha256(SCRIPT.encode()).hexdigest()}  scripts/{BROUGHT}\n")
+            manifest.write(f"{hashlib.sha256(SCRIPT.encode()).hexdigest()}  header/scripts/{BROUGHT}\n")
 
 
 class Device:

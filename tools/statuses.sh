@@ -277,15 +277,15 @@ notes() {
 device d < /dev/null
 rm -f notes/trace
 ends 0 'an install with its note' client_notes install app
-cp out first
+cp out answered
 notes committed
 sed 's/^kind single-file$/kind app/' whole > out
 title='the note of an install'
-says "$(sed 1d first)"
+says "$(sed 1d answered)"
 ends 2 'a resume of nothing, with its note' client_notes resume
-cp out first
+cp out answered
 notes 'no update'
-cp first out
+cp answered out
 title='the note of nothing'
 says "$(printf 'no update\nboot resume\nfrom Idle Committed 0 No 5\nend none')"
 ends 1 'a payload with another sum, with its note' client_notes install other
